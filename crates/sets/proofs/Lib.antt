@@ -1,0 +1,7 @@
+-- Laws of the definitions in specs/, for the proofs of this crate and of those that depend on it.
+pub mod Bools
+pub mod Bits
+pub mod Sets
+pub mod Size
+pub mod Smallest
+pub mod Bytes

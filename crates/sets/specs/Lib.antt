@@ -1,0 +1,5 @@
+-- Sets of badges: what a reader has to believe. Laws are in proofs/.
+pub mod Bools
+pub mod Sets
+pub mod Bytes
+pub mod Members

@@ -1,0 +1,18 @@
+-- What a BadgeSet of the program stands for. Contracts name `members` and never the field, so a wider set changes this file alone.
+use Prim.Native.Nat.{ℕ, _^_}
+use mathlib.Core.Bool.{Bool, true, false}
+use lib.Dec.{ltb}
+use Rattle.sets.specs.declared.BadgeSet.{BadgeSet}
+use Rattle.sets.specs.Sets.{union, only}
+
+-- a set holds badges below this number
+abbrev pub capacity : ℕ
+capacity = 64
+
+-- the badges of a set, as a number
+abbrev pub members : BadgeSet → ℕ
+members s = s .bits
+
+-- s with badge u; a badge that no set can hold changes nothing
+unfoldable pub insert : ℕ → ℕ → ℕ
+insert s u = elim (ltb u capacity) [ true ↦ union s (only u) | false ↦ s ]
