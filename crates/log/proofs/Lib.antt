@@ -1,0 +1,15 @@
+pub mod WithinLimits
+pub mod Records
+pub mod Judged
+pub mod Stepping
+pub mod Accepting
+pub mod Grammar
+pub mod Prefix
+pub mod Verdicts
+pub mod Days
+pub mod Meaning
+pub mod Marking
+pub mod Filled
+pub mod ReadCall
+pub mod Scan
+pub mod Checks

@@ -1,0 +1,73 @@
+-- Laws of the call read: its answer and the words it leaves, in the order of judging.
+use mathlib.Core.Path.{_≡_, refl, sym, ap, _∙_}
+use mathlib.Core.Bool.{Bool, true, false}
+use mathlib.Core.List.{List, [], _∷_, _++_}
+use Prim.Native.Nat.{ℕ, _*_, _≤_, _<_}
+use native.Mathlib.Omega.{arith}
+use lib.ListN.{length, drop}
+use borrow.Author.Tests.{lt-ltb, le-ltb}
+use Rattle.log.specs.declared.record.Record.{Record}
+use Rattle.log.specs.Limits.{wordsFor}
+use Rattle.log.specs.Outcomes.{Outcome, refused, success}
+use Rattle.log.specs.Judging.{judge}
+use Rattle.log.specs.Meaning.{badgesOf, ticksOf}
+use Rattle.log.specs.Days.{dayOf}
+use Rattle.log.specs.Filling.{Accepts}
+use Rattle.log.specs.Calls.{Values, valuesOf, verdictOf, Read, readJudged, readOf}
+use Rattle.log.proofs.Accepting.{Accepted, accepted-of}
+use Rattle.log.proofs.WithinLimits.{limits-of, words-most}
+
+abbrev left : Outcome Values → List ℕ → Read
+left answer words = record { answer = answer; words = words }
+
+-- the log's refusal first, then 8, and success otherwise
+pub read-refused : (log ws : List ℕ) (number offset : ℕ) → judge log ≡ refused number offset → readOf log ws ≡ left (refused number offset) ws
+unfolding readOf readJudged
+read-refused log ws number offset e = rw e
+
+module _ (log ws : List ℕ) (rs : List Record) (e : judge log ≡ success rs) where
+  pub read-few : length ws < wordsFor (badgesOf rs) (ticksOf rs) → readOf log ws ≡ left (refused 8 0) ws
+  unfolding readOf readJudged
+  read-few h = rw (e, readJudged, lt-ltb (length ws) (wordsFor (badgesOf rs) (ticksOf rs)) h)
+
+  pub read-success : wordsFor (badgesOf rs) (ticksOf rs) ≤ length ws → readOf log ws ≡ left (success (valuesOf rs)) (dayOf rs ++ drop (wordsFor (badgesOf rs) (ticksOf rs)) ws)
+  unfolding readOf readJudged
+  read-success h = rw (e, readJudged, le-ltb (length ws) (wordsFor (badgesOf rs) (ticksOf rs)) h)
+
+-- a verdict says what judging came to
+pub verdict-refused : (o : Outcome (List Record)) (number offset : ℕ) → verdictOf o ≡ refused number offset → o ≡ refused number offset
+unfolding verdictOf
+verdict-refused (refused k p) number offset e = same e
+  where
+    same : {a b c d : ℕ} → _≡_ {A = Outcome Values} (refused a b) (refused c d) → _≡_ {A = Outcome (List Record)} (refused a b) (refused c d)
+    same {a} {b} {c} {d} e = let f : a ≡ c = cc in let g : b ≡ d = cc in rw (f, g)
+verdict-refused (success rs) number offset e = absurd (let z : _≡_ {A = ℕ} 0 1 = cc in omega arith)
+
+pub record Told (log : List ℕ) (n T m : ℕ) : Type 0 where
+  pub records : List Record
+  pub judged : judge log ≡ success records
+  pub badges : badgesOf records ≡ n
+  pub ticks : ticksOf records ≡ T
+  pub same : valuesOf records ≡ record { badges = n; ticks = T; contacts = m }
+
+pub verdict-accepted : (log : List ℕ) (n T m : ℕ) → verdictOf (judge log) ≡ success (record { badges = n; ticks = T; contacts = m }) → Told log n T m
+unfolding verdictOf valuesOf
+verdict-accepted log n T m e = go (judge log) refl e
+  where
+    parts : {v w : Values} → success v ≡ success w → v ≡ w
+    parts e = cc
+
+    go : (o : Outcome (List Record)) → judge log ≡ o → verdictOf o ≡ success (record { badges = n; ticks = T; contacts = m }) → Told log n T m
+    go (refused k p) f g = absurd (let z : _≡_ {A = ℕ} 0 1 = cc in omega arith)
+    go (success rs) f g =
+        let s = parts g in
+        record { records = rs; judged = f; badges = ap (λ (v : Values). v .badges) s; ticks = ap (λ (v : Values). v .ticks) s; same = s }
+
+-- what filling asks
+pub accepts : {log : List ℕ} {n T m : ℕ} → Told log n T m → Accepts log n T
+accepts t = record { records = t .records; accepted = t .judged; badges = t .badges; ticks = t .ticks }
+
+-- the words of an accepted log are no more than those of the largest day
+pub accepted-words : {log : List ℕ} {n T m : ℕ} → Told log n T m → wordsFor n T ≤ 6144
+unfolding judge
+accepted-words {log} {n} {T} t = rw (← t .badges, ← t .ticks) (words-most _ _ (limits-of (accepted-of 0 log (t .records) (t .judged) .limits)))

@@ -1,0 +1,155 @@
+-- The program's judging loop: the verdict on a log from any state that judging comes to.
+use mathlib.Core.Path.{_≡_, refl, sym, ap, ap₂, _∙_}
+use mathlib.Core.Bool.{Bool, true, false}
+use mathlib.Core.List.{List, [], _∷_, _++_, List·Memᴰ·head, List·Memᴰ·tail}
+use Prim.Native.Nat.{ℕ, zero, suc, _+_, _-_, _*_, _^_, _≤_, _<_}
+use native.Mathlib.Omega.{arith}
+use lib.ListN.{length, take, drop, length-drop}
+use lib.Seq.{drop-drop, take-all}
+use borrow.Author.Tests.{eqb-true, leb-false}
+use Rattle.sets.proofs.Bools.{clash}
+use Rattle.log.specs.declared.record.Record.{Record}
+use Rattle.log.specs.declared.record.Record.the-variants.{Header, Contact, End}
+use Rattle.log.specs.declared.judging.State.{State}
+use Rattle.log.specs.Limits.{contactsMost}
+use Rattle.log.specs.Records.{sizeOf, kindOf}
+use Rattle.log.specs.Outcomes.{Outcome, refused, success}
+use Rattle.log.specs.Judging.{start, advance, Judgement, stop, next, done, validContact, judgeRecord, prepend, judgeFrom, judge}
+use Rattle.log.specs.Steps.{Bounded}
+use Rattle.log.specs.Meaning.{badgesOf, ticksOf, contactsOf}
+use Rattle.log.specs.Calls.{Values, valuesOf, verdictOf}
+use Rattle.log.specs.Reading.{logRecords}
+use Rattle.log.proofs.Records.{whole-size, size-pos}
+use Rattle.log.proofs.Stepping.{Continues, continues, Ends, ends, follow, judge-step}
+use Rattle.log.proofs.Accepting.{Mem, Accepted, accepted-of}
+
+abbrev values : ℕ → ℕ → ℕ → Values
+values n T m = record { badges = n; ticks = T; contacts = m }
+
+-- what a state says, after the records that are left
+unfoldable pub valuesAfter : State → List Record → Values
+valuesAfter st [] = values (st .badges) (st .ticks) (st .contacts)
+valuesAfter st (r ∷ rs) = valuesAfter (advance st r) rs
+
+unfoldable pub summary : State → Outcome (List Record) → Outcome Values
+summary st (refused number offset) = refused number offset
+summary st (success rs) = success (valuesAfter st rs)
+
+summary-prepend : (st : State) (r : Record) (o : Outcome (List Record)) → summary st (prepend r o) ≡ summary (advance st r) o
+unfolding summary prepend valuesAfter
+summary-prepend st r (refused number offset) = refl
+summary-prepend st r (success rs) = refl
+
+-- the values of a log's records: from any state after a header, and as they are defined
+after-contacts : (st : State) (n T : ℕ) (cts : List Record) (count : ℕ) → ((c : Record) → Mem c cts → validContact n T c ≡ true)
+    → valuesAfter st (cts ++ End count ∷ []) ≡ values (st .badges) (st .ticks) (st .contacts + length cts)
+unfolding valuesAfter validContact
+after-contacts st n T [] count v = ap (values (st .badges) (st .ticks)) (omega arith)
+after-contacts st n T (c ∷ cts) count v = one c (v c (List·Memᴰ·head refl)) (λ s. after-contacts s n T cts count (λ x i. v x (List·Memᴰ·tail i)))
+  where
+    one : (c : Record) → validContact n T c ≡ true → ((s : State) → valuesAfter s (cts ++ End count ∷ []) ≡ values (s .badges) (s .ticks) (s .contacts + length cts))
+        → valuesAfter (advance st c) (cts ++ End count ∷ []) ≡ values (st .badges) (st .ticks) (st .contacts + suc (length cts))
+    one (Header m S) e ih = absurd (clash e refl)
+    one (Contact a b first last) e ih = ih (advance st (Contact a b first last)) ∙ ap (values (st .badges) (st .ticks)) (omega arith)
+    one (End m) e ih = absurd (clash e refl)
+
+contacts-counted : (n T : ℕ) (cts : List Record) (count : ℕ) → ((c : Record) → Mem c cts → validContact n T c ≡ true) → contactsOf (cts ++ End count ∷ []) ≡ length cts
+unfolding contactsOf validContact
+contacts-counted n T [] count v = refl
+contacts-counted n T (c ∷ cts) count v = one c (v c (List·Memᴰ·head refl)) (contacts-counted n T cts count (λ x i. v x (List·Memᴰ·tail i)))
+  where
+    one : (c : Record) → validContact n T c ≡ true → contactsOf (cts ++ End count ∷ []) ≡ length cts → contactsOf (c ∷ (cts ++ End count ∷ [])) ≡ suc (length cts)
+    one (Header m S) e ih = absurd (clash e refl)
+    one (Contact a b first last) e ih = ap suc ih
+    one (End m) e ih = absurd (clash e refl)
+
+pub values-log : (n T : ℕ) (cts : List Record) → ((c : Record) → Mem c cts → validContact n T c ≡ true) → valuesOf (logRecords n T cts) ≡ values n T (length cts)
+unfolding valuesOf logRecords badgesOf ticksOf contactsOf
+values-log n T cts v = ap (values n T) (contacts-counted n T cts (length cts) v)
+
+after-log : (at n T : ℕ) (cts : List Record) → ((c : Record) → Mem c cts → validContact n T c ≡ true) → valuesAfter (start at) (logRecords n T cts) ≡ values n T (length cts)
+unfolding valuesAfter logRecords
+after-log at n T cts v = after-contacts (advance (start at) (Header n T)) n T cts (length cts) v ∙ ap (values n T) (omega arith)
+
+-- at the start of a log
+summary-start : (o : Outcome (List Record)) (log : List ℕ) → judge log ≡ o → verdictOf o ≡ summary (start 0) o
+unfolding verdictOf summary judge
+summary-start (refused number offset) log e = refl
+summary-start (success rs) log e =
+    let a = accepted-of 0 log rs e in
+    let n = badgesOf rs in
+    let T = ticksOf rs in
+    ap success (ap valuesOf (a .records) ∙ values-log n T (a .cts) (a .valid) ∙ sym (after-log 0 n T (a .cts) (a .valid)) ∙ ap (valuesAfter (start 0)) (sym (a .records)))
+
+-- the loop's invariant: the verdict on the whole log is that on the rest, from here
+pub record Reached (log : List ℕ) (st : State) : Type 0 where
+  pub inside : st .offset ≤ length log
+  pub one : st .headers ≤ 1
+  pub few : st .contacts ≤ contactsMost
+  pub same : verdictOf (judge log) ≡ summary st (judgeFrom st (drop (st .offset) log))
+
+pub reached-start : (log : List ℕ) → Reached log (start 0)
+unfolding judge
+reached-start log = record { inside = omega arith; one = omega arith; few = omega arith; same = summary-start (judge log) log refl }
+
+abbrev rest : List ℕ → State → List ℕ
+rest log st = drop (st .offset) log
+
+pub reached-next : (log : List ℕ) (st : State) (r : Record) (after : State) → Reached log st → judgeRecord st (rest log st) ≡ next r after → Reached log after
+unfolding follow
+reached-next log st r after g e =
+    let c = continues st (rest log st) r after e in
+    let o : after .offset ≡ st .offset + sizeOf (kindOf r) = ap (λ (x : State). x .offset) (c .moved) ∙ grows r in
+    record {
+      inside = omega (arith, whole-size (rest log st) r (c .whole), length-drop (st .offset) log, g .inside);
+      one = headers r c;
+      few = contacts r c;
+      same = g .same ∙ ap (summary st) (judge-step st (rest log st) _ e) ∙ summary-prepend st r _
+          ∙ ap₂ (λ (x : State) (s : List ℕ). summary x (judgeFrom after s)) (sym (c .moved)) (drop-drop (sizeOf (kindOf r)) (st .offset) log ∙ ap (λ (i : ℕ). drop i log) (sym o));
+    }
+  where
+    grows : (r : Record) → advance st r .offset ≡ st .offset + sizeOf (kindOf r)
+    grows (Header n T) = refl
+    grows (Contact a b first last) = refl
+    grows (End count) = refl
+
+    headers : (r : Record) → Continues st (rest log st) r after → after .headers ≤ 1
+    headers (Header n T) c = let h : st .headers ≡ 0 = eqb-true _ _ (c .turn) in let m : after .headers ≡ st .headers + 1 = ap (λ (x : State). x .headers) (c .moved) in omega arith
+    headers (Contact a b first last) c = let m : after .headers ≡ st .headers = ap (λ (x : State). x .headers) (c .moved) in omega (arith, g .one)
+    headers (End count) c = absurd (c .sound)
+
+    contacts : (r : Record) → Continues st (rest log st) r after → after .contacts ≤ contactsMost
+    contacts (Header n T) c = let m : after .contacts ≡ st .contacts = ap (λ (x : State). x .contacts) (c .moved) in omega (arith, g .few)
+    contacts (Contact a b first last) c =
+        let h : st .contacts < contactsMost = leb-false _ _ (c .room) in
+        let m : after .contacts ≡ st .contacts + 1 = ap (λ (x : State). x .contacts) (c .moved) in
+        omega arith
+    contacts (End count) c = absurd (c .sound)
+
+-- a record on the way takes bytes
+pub offset-grows : (log : List ℕ) (st : State) (r : Record) (after : State) → judgeRecord st (rest log st) ≡ next r after → st .offset < after .offset
+offset-grows log st r after e = go r (continues st (rest log st) r after e)
+  where
+    go : (r : Record) → Continues st (rest log st) r after → st .offset < after .offset
+    go (Header n T) c = let m : after .offset ≡ st .offset + 4 = ap (λ (x : State). x .offset) (c .moved) in omega arith
+    go (Contact a b first last) c = let m : after .offset ≡ st .offset + 6 = ap (λ (x : State). x .offset) (c .moved) in omega arith
+    go (End count) c = absurd (c .sound)
+
+-- the verdict at a refusal, and at the end of the log
+pub reached-stop : (log : List ℕ) (st : State) (number offset : ℕ) → Reached log st → judgeRecord st (rest log st) ≡ stop number offset → verdictOf (judge log) ≡ refused number offset
+unfolding follow summary
+reached-stop log st number offset g e = g .same ∙ ap (summary st) (judge-step st (rest log st) _ e)
+
+pub reached-done : (log : List ℕ) (st : State) (r : Record) → Reached log st → judgeRecord st (rest log st) ≡ done r → verdictOf (judge log) ≡ success (values (st .badges) (st .ticks) (st .contacts))
+unfolding follow summary valuesAfter
+reached-done log st r g e =
+    let f = ends st (rest log st) r e in
+    g .same ∙ ap (summary st) (judge-step st (rest log st) _ e) ∙ ap (λ (x : Record). success (valuesAfter st (x ∷ []))) (f .counted)
+
+-- the part of a slice from a place to its end is the rest
+pub rest-is : (log : List ℕ) (at : ℕ) → take (length log - at) (drop at log) ≡ drop at log
+rest-is log at = take-all (length log - at) (drop at log) (simp length-drop (omega arith))
+
+-- a state that was reached can take one record more
+pub bounded : {log : List ℕ} {st : State} → Reached log st → length log < 2 ^ 64 → Bounded st (length (take (length log - st .offset) (drop (st .offset) log)))
+bounded {log} {st} g h = record { room = rw (rest-is log (st .offset), length-drop) (omega (arith, g .inside)); one = g .one; few = g .few }

@@ -1,0 +1,51 @@
+-- The day in words: "word t×n+u has bit v set exactly when u and v are in contact in tick t".
+-- (A day is a temporal graph over T timestamps; the words of one tick are a snapshot's adjacency rows.)
+use mathlib.Core.Bool.{Bool}
+use mathlib.Core.List.{List, [], _∷_, _++_}
+use mathlib.Core.Path.{_≡_}
+use Prim.Native.Nat.{ℕ, zero, suc, _+_, _*_, _^_, _<_}
+use lib.Dec.{ltb}
+use lib.ListN.{getD}
+use Rattle.sets.specs.Bools.{_and_, _or_, isnt, all}
+use Rattle.sets.specs.Sets.{In, has, setOf}
+use Rattle.log.specs.declared.record.Record.{Record}
+use Rattle.log.specs.Meaning.{badgesOf, ticksOf, inContact}
+
+-- the badges in contact with u in tick t of a day of n badges, as a set
+unfoldable pub neighbours : ℕ → List ℕ → ℕ → ℕ → ℕ
+neighbours n ws t u = getD ws (t * n + u) 0
+
+-- a list by its elements
+unfoldable pub tabulate : ℕ → (ℕ → ℕ) → List ℕ
+tabulate zero f = []
+tabulate (suc m) f = tabulate m f ++ f m ∷ []
+
+-- the words of one tick: for each badge, those that a relation joins to it
+unfoldable pub tickWords : ℕ → (ℕ → ℕ → Bool) → List ℕ
+tickWords n r = tabulate n (λ u. setOf n (r u))
+
+-- the words of a day, tick by tick: r t u v says whether u and v are in contact in tick t
+unfoldable pub dayWords : ℕ → ℕ → (ℕ → ℕ → ℕ → Bool) → List ℕ
+dayWords n zero r = []
+dayWords n (suc T) r = dayWords n T r ++ tickWords n (r T)
+
+-- the words of a log's day
+unfoldable pub dayOf : List Record → List ℕ
+dayOf rs = dayWords (badgesOf rs) (ticksOf rs) (inContact rs)
+
+-- The words of one tick of a day: "Bit u of badge u's own word is 0, bits from n up are 0, and the words of one tick are symmetric."
+pub record IsTick (n : ℕ) (row : ℕ → ℕ) : Type 0 where
+  pub irreflexive : (u : ℕ) → u < n → In (row u) u → ⊥
+  pub within : (u : ℕ) → u < n → row u < 2 ^ n
+  pub symmetric : (u v : ℕ) → u < n → v < n → In (row u) v → In (row v) u
+
+-- every tick's words are those of a tick
+pub record IsDay (n T : ℕ) (ws : List ℕ) : Type 0 where
+  pub tick : (t : ℕ) → t < T → IsTick n (neighbours n ws t)
+
+-- the same as tests
+unfoldable pub isTick : ℕ → (ℕ → ℕ) → Bool
+isTick n row = all n (λ u. isnt (has (row u) u) and ltb (row u) (2 ^ n) and all n (λ v. isnt (has (row u) v) or has (row v) u))
+
+unfoldable pub isDay : ℕ → ℕ → List ℕ → Bool
+isDay n T ws = all T (λ t. isTick n (neighbours n ws t))
