@@ -1,40 +1,30 @@
 -- Judging accepts exactly the logs of document 01's grammar: one BH, 0 to 8,000 CT, one ED and nothing more.
 use mathlib.Core.Path.{_≡_, refl, sym, ap, ap₂, _∙_, subst}
-use mathlib.Core.Bool.{Bool, true, false}
-use mathlib.Core.List.{List, [], _∷_, _++_, append-assoc, append-nil, List·Memᴰ, List·Memᴰ·head, List·Memᴰ·tail, List·Memᴰ·not-nil}
-use Prim.Native.Nat.{ℕ, zero, suc, _+_, _-_, _*_, _^_, _≤_, _<_}
+use mathlib.Core.Bool.{true}
+use mathlib.Core.List.{List, [], _∷_, _++_, List·Memᴰ, List·Memᴰ·head, List·Memᴰ·tail, List·Memᴰ·not-nil}
+use Prim.Native.Nat.{ℕ, zero, suc, _+_, _≤_, _<_}
 use native.Mathlib.Nat.{add-zero}
 use native.Mathlib.Omega.{arith}
-use lib.Dec.{eqb, leb, ltb}
-use lib.ListN.{length, drop, drop-of-length-le, length-append}
-use lib.Seq.{drop-at}
-use borrow.Author.Tests.{eqb-true, ltb-true, leb-false, lt-ltb, lt-leb, le-leb, eq-eqb}
+use lib.ListN.{length, drop, drop-of-length-le}
+use borrow.Author.Tests.{eqb-true, ltb-true, leb-false}
 use Rattle.sets.specs.Bytes.{Bytes}
 use Rattle.sets.proofs.Bytes.{bytes-drop}
 use Rattle.log.specs.declared.record.Kind.the-variants as k
 use Rattle.log.specs.declared.record.Record.{Record}
 use Rattle.log.specs.declared.record.Record.the-variants.{Header, Contact, End}
-use Rattle.log.specs.declared.record.Decoded.{Decoded}
-use Rattle.log.specs.declared.record.Decoded.the-variants as d
 use Rattle.log.specs.declared.judging.State.{State}
 use Rattle.log.specs.Limits.{contactsMost, withinLimits}
-use Rattle.log.specs.Records.{sizeOf, kindOf, decode, encode, encodeAll}
+use Rattle.log.specs.Records.{sizeOf, kindOf, encode, encodeAll}
 use Rattle.log.specs.Outcomes.{Outcome, refused, success}
-use Rattle.log.specs.Judging.{start, advance, Judgement, stop, next, done, expected, oneTooMany, validContact, judgeValues, judgeDecoded, judgeRecord, prepend, judgeIn, judgeFrom, judge}
+use Rattle.log.specs.Judging.{start, advance, Judgement, stop, next, done, expected, validContact, judgeRecord, prepend, judgeIn, judgeFrom}
 use Rattle.log.specs.Meaning.{badgesOf, ticksOf}
 use Rattle.log.specs.Reading.{logRecords}
-use Rattle.log.proofs.Records.{whole-encode, length-encode, decode-encode, Encodable, contact-mark}
-use Rattle.log.proofs.Judged.{judge-kind-too-many, judge-kind-allowed, header-good, contact-good, end-done}
-use Rattle.log.proofs.Stepping.{Sound, Continues, continues, Ends, ends, follow, followIn, step-in, judge-step}
+use Rattle.log.proofs.Outcomes.{refused-success, success-same}
+use Rattle.log.proofs.Records.{whole-encode}
+use Rattle.log.proofs.Stepping.{Continues, continues, Ends, ends, follow, followIn, step-in, judge-step}
 
 abbrev pub Mem : Record → List Record → Type 0
 Mem c cts = List·Memᴰ c cts
-
-refused-success : {A : Type 0} {number offset : ℕ} {a : A} → refused number offset ≡ success a → ⊥
-refused-success e = let z : _≡_ {A = ℕ} 0 1 = cc in omega arith
-
-part : {x y : List Record} → success x ≡ success y → x ≡ y
-part e = cc
 
 -- an outcome with a record in front succeeds only if the outcome does
 record Fronted (r : Record) (o : Outcome (List Record)) (rs : List Record) : Type 0 where
@@ -45,7 +35,7 @@ record Fronted (r : Record) (o : Outcome (List Record)) (rs : List Record) : Typ
 fronted : (r : Record) (o : Outcome (List Record)) (rs : List Record) → prepend r o ≡ success rs → Fronted r o rs
 unfolding prepend
 fronted r (refused number offset) rs e = absurd (refused-success e)
-fronted r (success rest) rs e = record { rest = rest; succeeds = refl; same = sym (part e) }
+fronted r (success rest) rs e = record { rest = rest; succeeds = refl; same = sym (success-same e) }
 
 -- what holds of one contact more and of the others holds of all
 mem-cons : (P : Record → Type 0) (c : Record) (cts : List Record) → P c → ((x : Record) → Mem x cts → P x) → (x : Record) → Mem x (c ∷ cts) → P x
@@ -117,7 +107,7 @@ tail-of (suc fuel) st s rs h m e = go (judgeRecord st s) refl (λ after k rest. 
         let p = fronted r _ rs (sym (step-in fuel st s _ f) ∙ e) in
         rw (p .same) (one r after (p .rest) (continues st s r after f) (λ x y. ih after (sizeOf (kindOf r)) (p .rest) x y (p .succeeds)))
     go (done r) f ih =
-        let q : r ∷ [] ≡ rs = part (sym (step-in fuel st s _ f) ∙ e) in
+        let q : r ∷ [] ≡ rs = success-same (sym (step-in fuel st s _ f) ∙ e) in
         rw (← q) (tail-done st s r m (ends st s r f))
 
 -- What judging accepts, from whatever offset the log starts at.

@@ -1,13 +1,12 @@
 -- Filling the words from an accepted log, record by record: the loop's invariant and its laws.
 use mathlib.Core.Path.{_≡_, refl, sym, ap, _∙_, subst}
-use mathlib.Core.Bool.{Bool, true, false}
-use mathlib.Core.List.{List, [], _∷_, _++_, append-assoc, append-nil, List·Memᴰ, List·Memᴰ·head, List·Memᴰ·tail, List·Memᴰ·append-cases, List·Memᴰ·eq-of-singleton}
+use mathlib.Core.Bool.{true}
+use mathlib.Core.List.{List, [], _∷_, _++_, append-assoc, append-nil, List·Memᴰ·head, List·Memᴰ·tail, List·Memᴰ·append-cases, List·Memᴰ·eq-of-singleton}
 use mathlib.Core.Logic.{_⊎_, inl, inr}
-use Prim.Native.Nat.{ℕ, zero, suc, _+_, _-_, _*_, _^_, _≤_, _<_}
+use Prim.Native.Nat.{ℕ, _+_, _≤_, _<_}
 use native.Mathlib.Omega.{arith}
 use lib.ListN.{length, drop, replicate, length-drop, length-append, length-replicate}
 use lib.Seq.{drop-drop, drop-at}
-use Rattle.sets.specs.Bools.{_or_}
 use Rattle.sets.specs.Bytes.{Bytes}
 use Rattle.sets.proofs.Bools.{clash}
 use Rattle.log.specs.declared.record.Record.{Record}
@@ -17,16 +16,17 @@ use Rattle.log.specs.declared.record.Decoded.the-variants as d
 use Rattle.log.proofs.record.Decoded.{the-type}
 use denote.Enum.Declared.{tagOf}
 use types.Run.{OneOf}
-use Rattle.log.specs.Limits.{badgesMost, contactsMost, wordsFor}
+use Rattle.log.specs.Limits.{contactsMost, wordsFor}
 use Rattle.log.specs.Records.{sizeOf, kindOf, decode, encode, encodeAll}
 use Rattle.log.specs.Outcomes.{success}
 use Rattle.log.specs.Judging.{validContact, judge}
-use Rattle.log.specs.Meaning.{badgesOf, ticksOf, covers, inContact}
+use Rattle.log.specs.Meaning.{badgesOf, ticksOf, inContact}
 use Rattle.log.specs.Days.{dayWords, dayOf}
 use Rattle.log.specs.Filling.{Accepts, Admissible, Fitting, Marks}
 use Rattle.log.specs.Reading.{logRecords}
+use Rattle.log.proofs.Outcomes.{success-same}
 use Rattle.log.proofs.Records.{size-pos, length-encode, Encodable, decode-encode}
-use Rattle.log.proofs.Accepting.{Mem, Accepted, accepted-of}
+use Rattle.log.proofs.Accepting.{Mem, accepted-of}
 use Rattle.log.proofs.WithinLimits.{limits-of}
 use Rattle.log.proofs.Days.{day-none}
 use Rattle.log.proofs.Marking.{marks-append}
@@ -90,9 +90,6 @@ pub filling-start : (log : List ℕ) (n T : ℕ) (rest words : List ℕ) → Byt
 filling-start log n T rest words b a e =
     rw (cleared-rest (wordsFor n T) rest words e) (subst (Filling log n T 0 rest) (sym e) (filling-none log n T rest b a))
 
-success-part : {x y : List Record} → success x ≡ success y → x ≡ y
-success-part e = cc
-
 -- Where bytes are left, they begin with a whole record of the log; once it is marked, the words hold it too.
 pub record Found (log : List ℕ) (n T at : ℕ) (rest words : List ℕ) : Type 0 where
   pub r : Record
@@ -134,13 +131,13 @@ filling-done log n T at rest words a f h rs e = go (f .left) (f .accepted) (f .b
   where
     same : (xs : List Record) → xs ≡ rs → dayWords n T (inContact xs) ≡ dayWords (badgesOf rs) (ticksOf rs) (inContact rs)
     same xs g =
-        let k : a .records ≡ rs = success-part (sym (a .accepted) ∙ e) in
+        let k : a .records ≡ rs = success-same (sym (a .accepted) ∙ e) in
         let p : n ≡ badgesOf rs = sym (a .badges) ∙ ap badgesOf k in
         let q : T ≡ ticksOf rs = sym (a .ticks) ∙ ap ticksOf k in
         rw (g, p, q)
 
     go : (left : List Record) → judge log ≡ success (f .before ++ left) → drop at log ≡ encodeAll left → words ≡ dayWords (badgesOf rs) (ticksOf rs) (inContact rs) ++ rest
-    go [] g b = f .filled ∙ ap (λ (x : List ℕ). x ++ rest) (same (f .before) (sym (append-nil (f .before)) ∙ success-part (sym g ∙ e)))
+    go [] g b = f .filled ∙ ap (λ (x : List ℕ). x ++ rest) (same (f .before) (sym (append-nil (f .before)) ∙ success-same (sym g ∙ e)))
     go (r ∷ left) g b = absurd (omega (arith, length-drop at log, ap length b, length-append (encode r) (encodeAll left), length-encode r, size-pos (kindOf r)))
 
 -- what was decoded as a whole record is that record, and none of the decoder's other answers

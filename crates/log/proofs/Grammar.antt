@@ -1,27 +1,24 @@
 -- A log of document 01's grammar is accepted with its records; contact record number 8,001 is refused by 5, whole or cut.
-use mathlib.Core.Path.{_≡_, refl, sym, ap, ap₂, _∙_, subst}
-use mathlib.Core.Bool.{Bool, true, false}
-use mathlib.Core.List.{List, [], _∷_, _++_, append-assoc, append-nil, List·Memᴰ, List·Memᴰ·head, List·Memᴰ·tail}
+use mathlib.Core.Path.{_≡_, refl, sym, ap, ap₂, _∙_}
+use mathlib.Core.Bool.{true, false}
+use mathlib.Core.List.{List, [], _∷_, _++_, append-assoc, List·Memᴰ·head, List·Memᴰ·tail}
 use mathlib.Core.Logic.{_⊎_, inl, inr}
-use Prim.Native.Nat.{ℕ, zero, suc, _+_, _-_, _*_, _^_, _≤_, _<_}
-use native.Mathlib.Nat.{le-refl}
+use Prim.Native.Nat.{ℕ, suc, _+_, _-_, _*_, _^_, _≤_, _<_}
 use native.Mathlib.Omega.{arith}
-use lib.Dec.{eqb, leb, ltb}
-use lib.ListN.{length, drop, length-append}
+use lib.ListN.{length, length-append}
 use lib.Seq.{drop-at}
 use borrow.Author.Tests.{lt-ltb, lt-leb, le-leb, eq-eqb}
 use Rattle.sets.proofs.Bools.{clash}
 use Rattle.log.specs.declared.record.Kind.the-variants as k
 use Rattle.log.specs.declared.record.Record.{Record}
 use Rattle.log.specs.declared.record.Record.the-variants.{Header, Contact, End}
-use Rattle.log.specs.declared.record.Decoded.{Decoded}
 use Rattle.log.specs.declared.record.Decoded.the-variants as d
 use Rattle.log.specs.declared.judging.State.{State}
 use Rattle.log.specs.Limits.{contactsMost, withinLimits}
 use Rattle.log.specs.Records.{sizeOf, kindOf, decode, encode, encodeAll}
 use Rattle.log.specs.Outcomes.{Outcome, refused, success}
-use Rattle.log.specs.Judging.{start, advance, Judgement, stop, next, done, expected, oneTooMany, validContact, judgeKind, judgeValues, judgeDecoded, judgeRecord, prepend, judgeFrom, judge}
-use Rattle.log.specs.Reading.{logRecords, IsLog}
+use Rattle.log.specs.Judging.{start, advance, stop, next, done, expected, oneTooMany, validContact, judgeValues, judgeDecoded, judgeRecord, prepend, judgeFrom}
+use Rattle.log.specs.Reading.{logRecords}
 use Rattle.log.proofs.Records.{length-encode, decode-encode, Encodable, contact-mark, encode-append}
 use Rattle.log.proofs.Judged.{judge-kind-too-many, judge-kind-allowed, header-good, contact-good, end-done}
 use Rattle.log.proofs.Stepping.{follow, judge-step}

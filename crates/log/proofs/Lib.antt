@@ -1,4 +1,5 @@
 pub mod WithinLimits
+pub mod Outcomes
 pub mod Records
 pub mod Judged
 pub mod Stepping
@@ -11,5 +12,7 @@ pub mod Meaning
 pub mod Marking
 pub mod Filled
 pub mod ReadCall
+pub mod Theorems
+pub mod Substitutes
 pub mod Scan
 pub mod Checks

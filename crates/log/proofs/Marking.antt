@@ -13,11 +13,11 @@ use lib.Dec.{eqb, ltb}
 use lib.Arith.{digits-div, digits-mod, digits-lt}
 use lib.ListN.{length, getD, set, length-set, List·getD-append}
 use lib.Seq.{getD-set-same, getD-set-other, set-append-left}
-use borrow.Author.Tests.{ltb-true, lt-ltb, leb-true, eqb-true, eq-eqb}
+use borrow.Author.Tests.{ltb-true, lt-ltb, eqb-true, eq-eqb}
 use Rattle.sets.specs.Bools.{_and_, _or_}
 use Rattle.sets.specs.Sets.{In, union, only}
 use Rattle.sets.specs.Members.{capacity, insert}
-use Rattle.sets.proofs.Bools.{and-in, and-left, and-right, or-left, or-right, or-of, same-test}
+use Rattle.sets.proofs.Bools.{and-in, and-left, and-right, or-left, or-right, or-of, or-false, same-test}
 use Rattle.sets.proofs.Sets.{in-union-left, in-union-right, of-union, in-only, of-only, insert-in}
 use Rattle.log.specs.declared.record.Record.{Record}
 use Rattle.log.specs.declared.record.Record.the-variants.{Contact}
@@ -26,14 +26,9 @@ use Rattle.log.specs.Judging.{validContact}
 use Rattle.log.specs.Meaning.{covers, inContact}
 use Rattle.log.specs.Days.{neighbours, dayWords}
 use Rattle.log.specs.Filling.{Fitting, marked, Marks}
+use Rattle.log.proofs.Judged.{valid-of}
 use Rattle.log.proofs.Days.{day-length, tick-fits, in-day, of-day, day-by, day-same}
 use Rattle.log.proofs.Meaning.{Covers, covers-of, covers-in, contact-append}
-
--- a disjunction with a test that fails
-or-false : (b : Bool) → (b or false) ≡ b
-unfolding _or_
-or-false true = refl
-or-false false = refl
 
 -- badge v inserted into word i: every word has the members that it had, word i has v as well, and nothing else is new
 abbrev inserted : List ℕ → ℕ → ℕ → List ℕ
@@ -185,14 +180,6 @@ module _ (day : ℕ → ℕ → ℕ → Bool) (a b first last t : ℕ) (lo : fir
       back (inl e) = or-left _ _ (or-left _ _ (before-day day a b first last t t′ u v e))
       back (inr e) = until (e .0) (eq-or-lt-of-le (e .1))
 
--- the numbers of a valid contact
-valid-parts : (n T a b first last : ℕ) → validContact n T (Contact a b first last) ≡ true → (a < n) × (b < n) × (first ≤ last) × (last < T)
-unfolding validContact
-valid-parts n T a b first last e =
-    let f = and-left _ _ e in
-    let g = and-left _ _ f in
-    (ltb-true _ _ (and-right _ _ (and-left _ _ g)), ltb-true _ _ (and-right _ _ g), leb-true _ _ (and-right _ _ f), ltb-true _ _ (and-right _ _ e))
-
 -- The loop of mark_contact: the words after the ticks of a contact below t have been marked, from the words before the loop.
 pub record Marking (n a b first last : ℕ) (before : List ℕ) (t : ℕ) (ws : List ℕ) : Type 0 where
   pub low : first ≤ t
@@ -206,7 +193,7 @@ module _ (n a b first last : ℕ) (before : List ℕ) where
   pub marking-none : Fitting n (length before) (Contact a b first last) → Marking n a b first last before first before
   marking-none fit = record {
     low = le-refl _;
-    high = omega (arith, valid-parts n (fit .T) a b first last (fit .admissible));
+    high = omega (arith, valid-of n (fit .T) a b first last (fit .admissible));
     long = refl;
     marks = λ T day rest g e. e ∙ ap (λ (x : List ℕ). x ++ rest) (day-same n T _ _ (λ t u v h k l. same-test _ _
         (before-day day a b first last first t u v)
@@ -225,9 +212,9 @@ module _ (n a b first last : ℕ) (before : List ℕ) where
     high = omega arith;
     long = ap length e ∙ marked-length n (marked n ws t a b) t b a ∙ marked-length n ws t a b ∙ m .long;
     marks = λ T day rest g f.
-        let p = valid-parts n T a b first last g in
+        let p = valid-of n T a b first last g in
         e ∙ ap (λ (x : List ℕ). marked n (marked n x t a b) t b a) (m .marks T day rest g f)
-        ∙ pair-marked n T (markedBefore day (Contact a b first last) t) rest t a b (omega (arith, p)) (p .0) (p .1)
+        ∙ pair-marked n T (markedBefore day (Contact a b first last) t) rest t a b (omega (arith, p)) (p .low) (p .high)
         ∙ ap (λ (x : List ℕ). x ++ rest) (day-same n T _ _ (λ t′ u v i j k. before-more day a b first last t (m .low) (omega arith) t′ u v))
         ∙ ap (λ (s : ℕ). dayWords n T (markedBefore day (Contact a b first last) s) ++ rest) (sym (add-one t));
   }
@@ -250,8 +237,8 @@ module _ (n a b first last : ℕ) (before : List ℕ) where
 pub pair-fits : (n words a b first last t : ℕ) → Fitting n words (Contact a b first last) → t < last + 1
     → (n ≤ badgesMost) × (a < n) × (b < n) × (t * n + n ≤ words)
 pair-fits n words a b first last t fit h =
-    let p = valid-parts n (fit .T) a b first last (fit .admissible) in
-    (fit .few, p .0, p .1, omega (arith, tick-fits t (fit .T) n (omega (arith, p)), fit .there))
+    let p = valid-of n (fit .T) a b first last (fit .admissible) in
+    (fit .few, p .low, p .high, omega (arith, tick-fits t (fit .T) n (omega (arith, p)), fit .there))
 
 -- a record that covers nothing marks nothing
 pub marks-none : (n : ℕ) (r : Record) (ws : List ℕ) → ((t u v : ℕ) → covers r t u v ≡ false) → Marks n r ws ws

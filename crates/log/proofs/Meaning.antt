@@ -1,13 +1,13 @@
 -- Laws of what a log means: when a record covers a tick of a pair, and when a pair is in contact.
 use mathlib.Core.Path.{_≡_, refl, sym, ap, _∙_, subst}
-use mathlib.Core.Bool.{Bool, true, false}
+use mathlib.Core.Bool.{Bool, true}
 use mathlib.Core.List.{List, [], _∷_, _++_, List·Memᴰ, List·Memᴰ·head, List·Memᴰ·tail}
 use mathlib.Core.Logic.{_⊎_, inl, inr}
 use Prim.Native.Nat.{ℕ, _≤_}
 use lib.Dec.{eqb}
 use borrow.Author.Tests.{leb-true, le-leb, eqb-true, eq-eqb}
 use Rattle.sets.specs.Bools.{_and_, _or_}
-use Rattle.sets.proofs.Bools.{clash, and-in, and-left, and-right, or-left, or-right, or-of, isnt-of}
+use Rattle.sets.proofs.Bools.{clash, and-in, and-left, and-right, or-left, or-right, or-of, or-assoc, isnt-of}
 use Rattle.log.specs.declared.record.Record.{Record}
 use Rattle.log.specs.declared.record.Record.the-variants.{Header, Contact, End}
 use Rattle.log.specs.Judging.{validContact}
@@ -80,11 +80,6 @@ pub contact-swap : (rs : List Record) (t u v : ℕ) → inContact rs t u v ≡ t
 contact-swap rs t u v e = let x = contact-of rs t u v e in contact-in rs (x .0) t v u (x .1) (covers-swap (x .0) t u v (x .2))
 
 -- the contacts of two lists of records, one after the other, are those of either
-or-assoc : (a b c : Bool) → (a or (b or c)) ≡ (a or b or c)
-unfolding _or_
-or-assoc true b c = refl
-or-assoc false b c = refl
-
 pub contact-append : (xs ys : List Record) (t u v : ℕ) → inContact (xs ++ ys) t u v ≡ (inContact xs t u v or inContact ys t u v)
 unfolding inContact _or_
 contact-append [] ys t u v = refl

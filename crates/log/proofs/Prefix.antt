@@ -3,14 +3,13 @@ use mathlib.Core.Path.{_≡_, refl, sym, ap, _∙_}
 use mathlib.Core.Bool.{Bool, true, false}
 use mathlib.Core.List.{List, [], _∷_}
 use Prim.Native.Nat.{ℕ, zero, suc, _+_, _-_, _*_, _≤_, _<_, min}
-use native.Mathlib.Nat.{le-refl, not-suc-le-zero}
+use native.Mathlib.Nat.{le-refl}
 use native.Mathlib.Omega.{arith}
 use lib.Dec.{eqb}
 use lib.ListN.{length, take, drop, length-take}
-use lib.Seq.{drop-nil, take-nil}
+use lib.Seq.{take-nil}
 use borrow.Author.Tests.{eqb-true, eq-eqb, leb-false}
 use Rattle.sets.proofs.Bools.{same-test}
-use Rattle.log.specs.declared.record.Kind.the-variants as k
 use Rattle.log.specs.declared.record.Record.{Record}
 use Rattle.log.specs.declared.record.Record.the-variants.{Header, Contact, End}
 use Rattle.log.specs.declared.record.Decoded.{Decoded}
@@ -18,9 +17,8 @@ use Rattle.log.specs.declared.record.Decoded.the-variants as d
 use Rattle.log.specs.declared.judging.State.{State}
 use Rattle.log.specs.Limits.{contactsMost}
 use Rattle.log.specs.Records.{sizeOf, kindOf, decode}
-use Rattle.log.specs.Outcomes.{Outcome}
-use Rattle.log.specs.Judging.{start, advance, Judgement, stop, next, done, judgeKind, judgeValues, judgeDecoded, judgeRecord, prepend, judgeIn, judgeFrom, judge}
-use Rattle.log.proofs.Records.{size-le, decode-take}
+use Rattle.log.specs.Judging.{start, advance, Judgement, stop, next, done, judgeKind, judgeValues, judgeDecoded, judgeRecord, prepend, judgeIn, judgeFrom}
+use Rattle.log.proofs.Records.{decode-take}
 use Rattle.log.proofs.Judged.{end-wrong, end-trailing, end-done}
 use Rattle.log.proofs.Stepping.{Continues, continues, followIn, step-in, enough}
 

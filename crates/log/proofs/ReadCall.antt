@@ -1,9 +1,7 @@
 -- Laws of the call read: its answer and the words it leaves, in the order of judging.
-use mathlib.Core.Path.{_≡_, refl, sym, ap, _∙_}
-use mathlib.Core.Bool.{Bool, true, false}
-use mathlib.Core.List.{List, [], _∷_, _++_}
-use Prim.Native.Nat.{ℕ, _*_, _≤_, _<_}
-use native.Mathlib.Omega.{arith}
+use mathlib.Core.Path.{_≡_, refl, sym, ap}
+use mathlib.Core.List.{List, _++_}
+use Prim.Native.Nat.{ℕ, _≤_, _<_}
 use lib.ListN.{length, drop}
 use borrow.Author.Tests.{lt-ltb, le-ltb}
 use Rattle.log.specs.declared.record.Record.{Record}
@@ -14,7 +12,8 @@ use Rattle.log.specs.Meaning.{badgesOf, ticksOf}
 use Rattle.log.specs.Days.{dayOf}
 use Rattle.log.specs.Filling.{Accepts}
 use Rattle.log.specs.Calls.{Values, valuesOf, verdictOf, Read, readJudged, readOf}
-use Rattle.log.proofs.Accepting.{Accepted, accepted-of}
+use Rattle.log.proofs.Outcomes.{refused-success, success-same, refused-same}
+use Rattle.log.proofs.Accepting.{accepted-of}
 use Rattle.log.proofs.WithinLimits.{limits-of, words-most}
 
 abbrev left : Outcome Values → List ℕ → Read
@@ -37,12 +36,10 @@ module _ (log ws : List ℕ) (rs : List Record) (e : judge log ≡ success rs) w
 -- a verdict says what judging came to
 pub verdict-refused : (o : Outcome (List Record)) (number offset : ℕ) → verdictOf o ≡ refused number offset → o ≡ refused number offset
 unfolding verdictOf
-verdict-refused (refused k p) number offset e = same e
-  where
-    same : {a b c d : ℕ} → _≡_ {A = Outcome Values} (refused a b) (refused c d) → _≡_ {A = Outcome (List Record)} (refused a b) (refused c d)
-    same {a} {b} {c} {d} e = let f : a ≡ c = cc in let g : b ≡ d = cc in rw (f, g)
-verdict-refused (success rs) number offset e = absurd (let z : _≡_ {A = ℕ} 0 1 = cc in omega arith)
+verdict-refused (refused k p) number offset e = refused-same e
+verdict-refused (success rs) number offset e = absurd (refused-success (sym e))
 
+-- an accepted log, with its values
 pub record Told (log : List ℕ) (n T m : ℕ) : Type 0 where
   pub records : List Record
   pub judged : judge log ≡ success records
@@ -54,13 +51,10 @@ pub verdict-accepted : (log : List ℕ) (n T m : ℕ) → verdictOf (judge log) 
 unfolding verdictOf valuesOf
 verdict-accepted log n T m e = go (judge log) refl e
   where
-    parts : {v w : Values} → success v ≡ success w → v ≡ w
-    parts e = cc
-
     go : (o : Outcome (List Record)) → judge log ≡ o → verdictOf o ≡ success (record { badges = n; ticks = T; contacts = m }) → Told log n T m
-    go (refused k p) f g = absurd (let z : _≡_ {A = ℕ} 0 1 = cc in omega arith)
+    go (refused k p) f g = absurd (refused-success g)
     go (success rs) f g =
-        let s = parts g in
+        let s = success-same g in
         record { records = rs; judged = f; badges = ap (λ (v : Values). v .badges) s; ticks = ap (λ (v : Values). v .ticks) s; same = s }
 
 -- what filling asks

@@ -1,8 +1,8 @@
 -- The program's judging loop: the verdict on a log from any state that judging comes to.
 use mathlib.Core.Path.{_≡_, refl, sym, ap, ap₂, _∙_}
-use mathlib.Core.Bool.{Bool, true, false}
+use mathlib.Core.Bool.{true}
 use mathlib.Core.List.{List, [], _∷_, _++_, List·Memᴰ·head, List·Memᴰ·tail}
-use Prim.Native.Nat.{ℕ, zero, suc, _+_, _-_, _*_, _^_, _≤_, _<_}
+use Prim.Native.Nat.{ℕ, suc, _+_, _-_, _^_, _≤_, _<_}
 use native.Mathlib.Omega.{arith}
 use lib.ListN.{length, take, drop, length-drop}
 use lib.Seq.{drop-drop, take-all}
@@ -14,14 +14,14 @@ use Rattle.log.specs.declared.judging.State.{State}
 use Rattle.log.specs.Limits.{contactsMost}
 use Rattle.log.specs.Records.{sizeOf, kindOf}
 use Rattle.log.specs.Outcomes.{Outcome, refused, success}
-use Rattle.log.specs.Judging.{start, advance, Judgement, stop, next, done, validContact, judgeRecord, prepend, judgeFrom, judge}
+use Rattle.log.specs.Judging.{start, advance, stop, next, done, validContact, judgeRecord, prepend, judgeFrom, judge}
 use Rattle.log.specs.Steps.{Bounded}
 use Rattle.log.specs.Meaning.{badgesOf, ticksOf, contactsOf}
 use Rattle.log.specs.Calls.{Values, valuesOf, verdictOf}
 use Rattle.log.specs.Reading.{logRecords}
-use Rattle.log.proofs.Records.{whole-size, size-pos}
-use Rattle.log.proofs.Stepping.{Continues, continues, Ends, ends, follow, judge-step}
-use Rattle.log.proofs.Accepting.{Mem, Accepted, accepted-of}
+use Rattle.log.proofs.Records.{whole-size}
+use Rattle.log.proofs.Stepping.{Continues, continues, ends, follow, judge-step}
+use Rattle.log.proofs.Accepting.{Mem, accepted-of}
 
 abbrev values : ℕ → ℕ → ℕ → Values
 values n T m = record { badges = n; ticks = T; contacts = m }

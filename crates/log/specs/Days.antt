@@ -2,7 +2,6 @@
 -- (A day is a temporal graph over T timestamps; the words of one tick are a snapshot's adjacency rows.)
 use mathlib.Core.Bool.{Bool}
 use mathlib.Core.List.{List, [], _∷_, _++_}
-use mathlib.Core.Path.{_≡_}
 use Prim.Native.Nat.{ℕ, zero, suc, _+_, _*_, _^_, _<_}
 use lib.Dec.{ltb}
 use lib.ListN.{getD}

@@ -1,5 +1,5 @@
 -- What a log means: its badge count, its tick count, and which pairs are in contact in which ticks.
-use mathlib.Core.Bool.{Bool, true, false}
+use mathlib.Core.Bool.{Bool, false}
 use mathlib.Core.List.{List, [], _∷_}
 use Prim.Native.Nat.{ℕ, suc}
 use lib.Dec.{eqb, leb}

@@ -14,7 +14,7 @@ use Rattle.log.specs.Outcomes.{success}
 use Rattle.log.specs.Judging.{validContact}
 use Rattle.log.specs.Meaning.{covers}
 use Rattle.log.specs.Days.{neighbours}
-use Rattle.log.specs.Calls.{Values, Read}
+use Rattle.log.specs.Calls.{Read}
 
 -- the records of a log with these contact records
 unfoldable pub logRecords : ℕ → ℕ → List Record → List Record
@@ -32,7 +32,7 @@ abbrev pub Met : List Record → ℕ → ℕ → ℕ → Type 0
 Met cts t u v = (c : Record) × List·Memᴰ c cts × (covers c t u v ≡ true)
 
 -- Of every log, lent n×T words or more: the call succeeds with the log's n, T and number of contact records; bit v of word t×n+u
--- is set exactly when u and v are in contact in tick t; and the words after the first n×T are as they were.
+-- is set exactly when u and v are in contact in tick t; and the words after the first n×T are as they were, and as many.
 pub record Reads (call : List ℕ → List ℕ → Read) : Type 0 where
   pub answers : (log ws : List ℕ) (n T : ℕ) (cts : List Record) → IsLog log n T cts → wordsFor n T ≤ length ws
       → call log ws .answer ≡ success (record { badges = n; ticks = T; contacts = length cts })
@@ -40,3 +40,5 @@ pub record Reads (call : List ℕ → List ℕ → Read) : Type 0 where
       → (t u v : ℕ) → t < T → u < n → In (neighbours n (call log ws .words) t u) v ↔ Met cts t u v
   pub keeps : (log ws : List ℕ) (n T : ℕ) (cts : List Record) → IsLog log n T cts → wordsFor n T ≤ length ws
       → drop (wordsFor n T) (call log ws .words) ≡ drop (wordsFor n T) ws
+  pub long : (log ws : List ℕ) (n T : ℕ) (cts : List Record) → IsLog log n T cts → wordsFor n T ≤ length ws
+      → length (call log ws .words) ≡ length ws

@@ -44,6 +44,17 @@ unfolding _or_
 or-of true b e = inl refl
 or-of false b e = inr e
 
+-- a disjunction with a test that fails is the other test, and the order of joining does not matter
+pub or-false : (b : Bool) → (b or false) ≡ b
+unfolding _or_
+or-false true = refl
+or-false false = refl
+
+pub or-assoc : (a b c : Bool) → (a or (b or c)) ≡ (a or b or c)
+unfolding _or_
+or-assoc true b c = refl
+or-assoc false b c = refl
+
 -- a negation passes exactly when the test does not
 pub isnt-in : (a : Bool) → (a ≡ true → ⊥) → isnt a ≡ true
 unfolding isnt

@@ -1,7 +1,7 @@
 use borrow.Author.Needs.{needs}
 use mathlib.Core.Path.{_≡_, refl, sym, ap, _∙_, subst}
 use mathlib.Core.List.{List, _++_}
-use Prim.Native.Nat.{ℕ, _+_, _-_, _*_, _≤_}
+use Prim.Native.Nat.{ℕ, _+_, _-_, _≤_}
 use native.Mathlib.Omega.{arith}
 use lib.ListN.{length, drop}
 use Rattle.log.specs.Limits.{wordsFor}
@@ -15,13 +15,6 @@ use Rattle.log.proofs.Verdicts.{rest-is}
 use Rattle.log.proofs.Filled.{Filling, filling-start, cleared-rest, fitting, whole-part, whole-only, Found, found, filling-done}
 use Rattle.log.proofs.day.fill.Statement.{statement}
 use Rattle.log.proofs.day.fill.Tie as tie
-use Rattle.log.proofs.day.fill.Reads as reads
-use Rattle.log.proofs.day.fill.Lts as lts
-use Rattle.log.proofs.day.clear.Reads as clear-reads
-use Rattle.log.proofs.day.mark_record.Reads as mark-record-reads
-use Rattle.log.proofs.record.decode.Reads as decode-reads
-use Rattle.log.proofs.record.kind_of.Reads as kind-of-reads
-use Rattle.log.proofs.record.size_of.Reads as size-of-reads
 
 abbrev Inv-loop : tie.InvT-loop
 Inv-loop log badges ticks words₀ at₀ words at = (length words ≡ length words₀) × Filling log badges ticks at (drop (wordsFor badges ticks) words₀) words
@@ -43,57 +36,44 @@ is-whole c = c .decode .ensures ∙ ap decode (rest-is (c .before .before .befor
 same-record : (c : tie.After-record Inv-loop μ-loop) → finds (c .before .before .before .before) .r ≡ c .«record» .given .0 .0
 same-record c = whole-part (sym (is-whole (c .before .before)) ∙ c .«record» .given .1)
 
--- src/day.rt:73:18
 mul-clear : tie.Need-mul-clear Inv-loop μ-loop
 mul-clear c = search needs
 
--- src/day.rt:73:5
 clear-requires : tie.Need-clear-requires Inv-loop μ-loop
 clear-requires c κs = search needs
 
--- src/day.rt:75:5
 loop-holds : tie.Need-loop-holds Inv-loop μ-loop
 loop-holds c = (refl, filling-start _ _ _ _ _ (bytes (c .before .before .before .before .before)) (c .before .before .before .before .before .before .pre .0) (c .before .before .clear .ensures))
 
--- src/day.rt:76:45
 sub-decode : tie.Need-sub-decode Inv-loop μ-loop
 sub-decode c = search needs
 
--- src/day.rt:76:45
 part-decode-start : tie.Need-part-decode-start Inv-loop μ-loop
 part-decode-start c = search needs
 
--- src/day.rt:76:45
 part-decode-end : tie.Need-part-decode-end Inv-loop μ-loop
 part-decode-end c = search needs
 
--- src/day.rt:76:38
 decode-requires : tie.Need-decode-requires Inv-loop μ-loop
 decode-requires c κs = search needs
 
--- src/day.rt:76:28
 enum-known-record : tie.Need-enum-known-record Inv-loop μ-loop
 enum-known-record c = search needs
 
--- src/day.rt:77:13
 same-length : tie.Need-same-length Inv-loop μ-loop
 same-length c = search needs
 
--- src/day.rt:77:13
 returns : tie.Need-returns Inv-loop μ-loop
 returns c = absurd (whole-only _ _ (is-whole (c .before)) (c .match .keys2))
 
--- src/day.rt:79:9
 mark-record-requires : tie.Need-mark-record-requires Inv-loop μ-loop
 mark-record-requires c κs =
     let p = c .before .before .before .before .before .before .before .before .before .before .before .before .before .before .pre in
     fitting (p .0) (omega arith) (subst (Admissible _ _) (same-record (c .before .before)) (finds (c .before .before .before .before .before .before) .admissible))
 
--- src/day.rt:80:27
 kind-of-requires : tie.Need-kind-of-requires Inv-loop μ-loop
 kind-of-requires c κs = search needs
 
--- src/day.rt:80:19
 size-of-requires : tie.Need-size-of-requires Inv-loop μ-loop
 size-of-requires c κs = search needs
 
@@ -103,25 +83,20 @@ size c = c .size-of .ensures ∙ ap sizeOf (c .before .kind-of .ensures ∙ ap k
 fits : (c : tie.After-size-of Inv-loop μ-loop) → c .before .before .before .before .before .before .before .before .before .before .before .before .loop .at + c .size-of .result ≤ length (c .before .before .before .before .before .before .before .before .before .before .before .before .before .before .before .before .before .before .before .args .log .now)
 fits c = rw (size c) (finds (c .before .before .before .before .before .before .before .before .before .before .before) .fits)
 
--- src/day.rt:80:14
 add-at : tie.Need-add-at Inv-loop μ-loop
 add-at c = omega (arith, fits c)
 
--- src/day.rt:75:5
 loop-less : tie.Need-loop-less Inv-loop μ-loop
 loop-less c = omega (arith, fits c, size c, size-pos (kindOf (finds (c .before .before .before .before .before .before .before .before .before .before .before) .r)))
 
--- src/day.rt:75:5
 loop-again : tie.Need-loop-again Inv-loop μ-loop
 loop-again c =
     let f = finds (c .before .before .before .before .before .before .before .before .before .before .before) in
     (omega arith, rw (size c) (f .next _ (rw (same-record (c .before .before .before .before .before .before .before)) (c .before .before .before .before .mark-record .ensures))))
 
--- src/day.rt:69:1
 same-length-2 : tie.Need-same-length-2 Inv-loop μ-loop
 same-length-2 c = search needs
 
--- src/day.rt:69:1
 returns-2 : tie.Need-returns-2 Inv-loop μ-loop
 returns-2 c = λ rs e. filling-done _ _ _ _ _ _ (c .before .before .before .before .before .before .before .before .pre .0) (c .before .loop .inv .1) (c .loop-test .left) rs e ∙ ap (λ (x : List ℕ). dayOf rs ++ x) (cleared-rest (wordsFor (c .before .before .before .before .before .before .before .before .args .badges) (c .before .before .before .before .before .before .before .before .args .ticks)) _ _ (c .before .before .before .before .clear .ensures))
 

@@ -1,4 +1,4 @@
-use mathlib.Core.Path.{_≡_, sym, ap, ap₂, _∙_}
+use mathlib.Core.Path.{sym, ap, ap₂, _∙_}
 use mathlib.Core.List.{_++_}
 use Prim.Native.Nat.{ℕ}
 use native.Mathlib.Omega.{arith}
@@ -11,53 +11,40 @@ use Rattle.log.proofs.ReadCall.{read-refused, read-few, read-success, v
 use borrow.Author.Needs.{needs}
 use Rattle.log.proofs.reading.read.Statement.{statement}
 use Rattle.log.proofs.reading.read.Tie as tie
-use Rattle.log.proofs.reading.read.Reads as reads
-use Rattle.log.proofs.reading.read.Lts as lts
-use Rattle.log.proofs.day.fill.Reads as fill-reads
-use Rattle.log.proofs.judging.judge.Reads as judge-reads
 
 -- what judging told of an accepted log
 told : (c : tie.After-badges) → Told (c .before .before .before .before .before .args .log .now) (c .badges .given .0 .0) (c .badges .given .0 .1 .0) (c .badges .given .0 .1 .1 .0)
 told c = verdict-accepted _ _ _ _ (sym (c .before .before .judge .ensures) ∙ ap verdictOutcome (c .badges .given .1))
 
--- src/reading.rt:15:11
 judge-requires : tie.Need-judge-requires
 judge-requires c κs = search needs
 
--- src/reading.rt:16:26
 enum-known-refusal : tie.Need-enum-known-refusal
 enum-known-refusal c = search needs
 
--- src/reading.rt:18:13
 enum-known-badges : tie.Need-enum-known-badges
 enum-known-badges c = search needs
 
--- src/reading.rt:22:30
 mul-if1 : tie.Need-mul-if1
 mul-if1 c = omega (arith, accepted-words (told (c .before)))
 
--- src/reading.rt:23:17
 returns : tie.Need-returns
 returns c =
     let t = told (c .before .before) in
     let e = read-few _ (c .before .before .before .before .before .before .before .args .words .now) (t .records) (t .judged) (rw (t .badges, t .ticks) (c .if1 .taken)) in
     (sym (ap (λ (x : Read). x .answer) e), sym (ap (λ (x : Read). x .words) e))
 
--- src/reading.rt:25:13
 fill-requires : tie.Need-fill-requires
 fill-requires c κs = (accepts (told (c .before .before .before)), c .before .if1 .left)
 
--- src/reading.rt:11:1
 returns-2 : tie.Need-returns-2
 returns-2 c =
     let e = read-refused _ (c .before .before .before .before .before .before .args .words .now) _ _ (verdict-refused _ _ _ (sym (c .before .before .before .judge .ensures) ∙ ap verdictOutcome (c .before .refusal .given .1))) in
     (sym (ap (λ (x : Read). x .answer) e), sym (ap (λ (x : Read). x .words) e))
 
--- src/reading.rt:11:1
 same-length : tie.Need-same-length
 same-length c = search needs
 
--- src/reading.rt:11:1
 returns-3 : tie.Need-returns-3
 returns-3 c =
     let t = told (c .before .before .before .before .before .before) in
