@@ -13,7 +13,7 @@ use Rattle.log.specs.declared.record.Kind.the-variants as k
 use Rattle.log.specs.declared.record.Record.{Record}
 use Rattle.log.specs.declared.record.Record.the-variants.{Header, Contact, End}
 use Rattle.log.specs.declared.judging.State.{State}
-use Rattle.log.specs.Limits.{contactsMost, withinLimits}
+use Rattle.log.specs.Limits.{maxContacts, withinLimits}
 use Rattle.log.specs.Records.{sizeOf, kindOf, encode, encodeAll}
 use Rattle.log.specs.Outcomes.{Outcome, refused, success}
 use Rattle.log.specs.Judging.{start, advance, Judgement, stop, next, done, expected, validContact, judgeRecord, prepend, judgeIn, judgeFrom}
@@ -46,12 +46,12 @@ mem-cons P c cts h f x (List·Memᴰ·tail m) = f x m
 pub record Tail (st : State) (s : List ℕ) (rs : List Record) : Type 0 where
   pub cts : List Record
   pub shape : rs ≡ cts ++ End (st .contacts + length cts) ∷ []
-  pub few : st .contacts + length cts ≤ contactsMost
+  pub few : st .contacts + length cts ≤ maxContacts
   pub valid : (c : Record) → Mem c cts → validContact (st .badges) (st .ticks) c ≡ true
   pub bytes : Bytes s → s ≡ encodeAll rs
 
 -- the end record alone
-tail-done : (st : State) (s : List ℕ) (r : Record) → st .contacts ≤ contactsMost → Ends st s r → Tail st s (r ∷ [])
+tail-done : (st : State) (s : List ℕ) (r : Record) → st .contacts ≤ maxContacts → Ends st s r → Tail st s (r ∷ [])
 unfolding encodeAll
 tail-done st s r h e = record {
   cts = [];
@@ -84,23 +84,23 @@ tail-next st s a b first last after rs c t = go after (c .moved) t
         }
 
 -- a record of a log after its header that lets judging go on is a contact
-pub tail-of : (fuel : ℕ) (st : State) (s : List ℕ) (rs : List Record) → 0 < st .headers → st .contacts ≤ contactsMost → judgeIn fuel st s ≡ success rs → Tail st s rs
+pub tail-of : (fuel : ℕ) (st : State) (s : List ℕ) (rs : List Record) → 0 < st .headers → st .contacts ≤ maxContacts → judgeIn fuel st s ≡ success rs → Tail st s rs
 unfolding judgeIn followIn
 tail-of zero st s rs h m e = absurd (refused-success e)
 tail-of (suc fuel) st s rs h m e = go (judgeRecord st s) refl (λ after k rest. tail-of fuel after (drop k s) rest)
   where
-    one : (r : Record) (after : State) (rest : List Record) → Continues st s r after → (0 < after .headers → after .contacts ≤ contactsMost → Tail after (drop (sizeOf (kindOf r)) s) rest)
+    one : (r : Record) (after : State) (rest : List Record) → Continues st s r after → (0 < after .headers → after .contacts ≤ maxContacts → Tail after (drop (sizeOf (kindOf r)) s) rest)
         → Tail st s (r ∷ rest)
     one (Header n T) after rest c t = absurd (let z : st .headers ≡ 0 = eqb-true _ _ (c .turn) in omega arith)
     one (Contact a b first last) after rest c t =
         let x : after .headers ≡ st .headers = ap (λ (y : State). y .headers) (c .moved) in
         let y : after .contacts ≡ st .contacts + 1 = ap (λ (y : State). y .contacts) (c .moved) in
-        let z : st .contacts < contactsMost = leb-false _ _ (c .room) in
+        let z : st .contacts < maxContacts = leb-false _ _ (c .room) in
         tail-next st s a b first last after rest c (t (omega arith) (omega arith))
     one (End count) after rest c t = absurd (c .sound)
 
     go : (j : Judgement) → judgeRecord st s ≡ j
-        → ((after : State) (k : ℕ) (rest : List Record) → 0 < after .headers → after .contacts ≤ contactsMost → judgeIn fuel after (drop k s) ≡ success rest → Tail after (drop k s) rest)
+        → ((after : State) (k : ℕ) (rest : List Record) → 0 < after .headers → after .contacts ≤ maxContacts → judgeIn fuel after (drop k s) ≡ success rest → Tail after (drop k s) rest)
         → Tail st s rs
     go (stop number offset) f ih = absurd (refused-success (sym (step-in fuel st s _ f) ∙ e))
     go (next r after) f ih =
@@ -115,7 +115,7 @@ pub record Accepted (s : List ℕ) (rs : List Record) : Type 0 where
   pub cts : List Record
   pub records : rs ≡ logRecords (badgesOf rs) (ticksOf rs) cts
   pub limits : withinLimits (badgesOf rs) (ticksOf rs) ≡ true
-  pub few : length cts ≤ contactsMost
+  pub few : length cts ≤ maxContacts
   pub valid : (c : Record) → Mem c cts → validContact (badgesOf rs) (ticksOf rs) c ≡ true
   pub bytes : Bytes s → s ≡ encodeAll rs
 
@@ -123,11 +123,11 @@ pub accepted-of : (at : ℕ) (s : List ℕ) (rs : List Record) → judgeFrom (st
 unfolding judgeFrom follow followIn logRecords encodeAll badgesOf ticksOf
 accepted-of at s rs e = go (judgeRecord (start at) s) refl
   where
-    one : (r : Record) (after : State) (rest : List Record) → Continues (start at) s r after → (0 < after .headers → after .contacts ≤ contactsMost → Tail after (drop (sizeOf (kindOf r)) s) rest)
+    one : (r : Record) (after : State) (rest : List Record) → Continues (start at) s r after → (0 < after .headers → after .contacts ≤ maxContacts → Tail after (drop (sizeOf (kindOf r)) s) rest)
         → Accepted s (r ∷ rest)
     one (Header n T) after rest c t = at-header after (c .moved) t
       where
-        at-header : (x : State) → x ≡ advance (start at) (Header n T) → (0 < x .headers → x .contacts ≤ contactsMost → Tail x (drop (sizeOf k.Header) s) rest) → Accepted s (Header n T ∷ rest)
+        at-header : (x : State) → x ≡ advance (start at) (Header n T) → (0 < x .headers → x .contacts ≤ maxContacts → Tail x (drop (sizeOf k.Header) s) rest) → Accepted s (Header n T ∷ rest)
         at-header x e t =
             let h : x .headers ≡ 0 + 1 = ap (λ (y : State). y .headers) e in
             let m : x .contacts ≡ 0 = ap (λ (y : State). y .contacts) e in

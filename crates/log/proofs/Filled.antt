@@ -16,7 +16,7 @@ use Rattle.log.specs.declared.record.Decoded.the-variants as d
 use Rattle.log.proofs.record.Decoded.{the-type}
 use denote.Enum.Declared.{tagOf}
 use types.Run.{OneOf}
-use Rattle.log.specs.Limits.{contactsMost, wordsFor}
+use Rattle.log.specs.Limits.{maxContacts, wordsFor}
 use Rattle.log.specs.Records.{sizeOf, kindOf, decode, encode, encodeAll}
 use Rattle.log.specs.Outcomes.{success}
 use Rattle.log.specs.Judging.{validContact, judge}
@@ -42,7 +42,7 @@ proper-contact n T (Header m S) e = absurd (clash e refl)
 proper-contact n T (Contact a b first last) e = record { admissible = e; encodable = tt }
 proper-contact n T (End count) e = absurd (clash e refl)
 
-proper-log : (n T : ℕ) (cts : List Record) → length cts ≤ contactsMost → ((c : Record) → Mem c cts → validContact n T c ≡ true) → (r : Record) → Mem r (logRecords n T cts) → Proper n T r
+proper-log : (n T : ℕ) (cts : List Record) → length cts ≤ maxContacts → ((c : Record) → Mem c cts → validContact n T c ≡ true) → (r : Record) → Mem r (logRecords n T cts) → Proper n T r
 unfolding logRecords
 proper-log n T cts few valid r (List·Memᴰ·head e) = subst (Proper n T) (sym e) (record { admissible = tt; encodable = tt })
 proper-log n T cts few valid r (List·Memᴰ·tail m) = go (List·Memᴰ·append-cases cts m)

@@ -14,7 +14,7 @@ use Rattle.log.specs.declared.record.Record.{Record}
 use Rattle.log.specs.declared.record.Record.the-variants.{Header, Contact, End}
 use Rattle.log.specs.declared.record.Decoded.the-variants as d
 use Rattle.log.specs.declared.judging.State.{State}
-use Rattle.log.specs.Limits.{contactsMost, withinLimits}
+use Rattle.log.specs.Limits.{maxContacts, withinLimits}
 use Rattle.log.specs.Records.{sizeOf, kindOf, decode, encode, encodeAll}
 use Rattle.log.specs.Outcomes.{Outcome, refused, success}
 use Rattle.log.specs.Judging.{start, advance, stop, next, done, expected, oneTooMany, validContact, judgeValues, judgeDecoded, judgeRecord, prepend, judgeFrom}
@@ -58,7 +58,7 @@ prepend-refused [] number offset = refl
 prepend-refused (x ∷ xs) number offset = ap (prepend x) (prepend-refused xs number offset)
 
 -- valid contact records, while there is room for them
-contacts-run : (st : State) (cts : List Record) (s : List ℕ) → 0 < st .headers → st .contacts + length cts ≤ contactsMost
+contacts-run : (st : State) (cts : List Record) (s : List ℕ) → 0 < st .headers → st .contacts + length cts ≤ maxContacts
     → ((c : Record) → Mem c cts → validContact (st .badges) (st .ticks) c ≡ true)
     → judgeFrom st (encodeAll cts ++ s) ≡ prependAll cts (judgeFrom (afterContacts st (length cts)) s)
 unfolding encodeAll prependAll validContact
@@ -66,14 +66,14 @@ contacts-run st [] s h m v = ap₂ (λ (o c : ℕ). judgeFrom (record { offset =
 contacts-run st (c ∷ cts) s h m v = one c (v c (List·Memᴰ·head refl)) (contacts-run (advance st c) cts s) (λ x i. v x (List·Memᴰ·tail i))
   where
     one : (c : Record) → validContact (st .badges) (st .ticks) c ≡ true
-        → (0 < advance st c .headers → advance st c .contacts + length cts ≤ contactsMost → ((x : Record) → Mem x cts → validContact (advance st c .badges) (advance st c .ticks) x ≡ true)
+        → (0 < advance st c .headers → advance st c .contacts + length cts ≤ maxContacts → ((x : Record) → Mem x cts → validContact (advance st c .badges) (advance st c .ticks) x ≡ true)
         → judgeFrom (advance st c) (encodeAll cts ++ s) ≡ prependAll cts (judgeFrom (afterContacts (advance st c) (length cts)) s))
         → ((x : Record) → Mem x cts → validContact (st .badges) (st .ticks) x ≡ true)
         → judgeFrom st ((encode c ++ encodeAll cts) ++ s) ≡ prepend c (prependAll cts (judgeFrom (afterContacts st (suc (length cts))) s))
     one (Header n T) e ih w = absurd (clash e refl)
     one (Contact a b first last) e ih w =
         let r = Contact a b first last in
-        let l : st .contacts < contactsMost = omega arith in
+        let l : st .contacts < maxContacts = omega arith in
         ap (judgeFrom st) (append-assoc (encode r) (encodeAll cts) s)
         ∙ judge-next st r (encodeAll cts ++ s) tt (lt-ltb _ _ h) (lt-leb _ _ l) (λ left. contact-good st left a b first last e)
         ∙ ap (prepend r) (ih h (omega arith) w)
@@ -85,7 +85,7 @@ header-run : (at n T : ℕ) (s : List ℕ) → withinLimits n T ≡ true → jud
 header-run at n T s e = judge-next (start at) (Header n T) s tt refl refl (λ left. header-good (start at) left n T e)
 
 -- the end record with the right count, and nothing after it
-end-run : (st : State) → 0 < st .headers → st .contacts ≤ contactsMost → judgeFrom st (encodeAll (End (st .contacts) ∷ [])) ≡ success (End (st .contacts) ∷ [])
+end-run : (st : State) → 0 < st .headers → st .contacts ≤ maxContacts → judgeFrom st (encodeAll (End (st .contacts) ∷ [])) ≡ success (End (st .contacts) ∷ [])
 unfolding encodeAll follow
 end-run st h m =
     let r = End (st .contacts) in
@@ -94,7 +94,7 @@ end-run st h m =
     judge-step st (encode r ++ []) (done r) (judge-encoded st r [] b (lt-ltb _ _ h) refl ∙ end-done st _ (st .contacts) (eq-eqb (st .contacts) (st .contacts) refl) (eq-eqb _ _ l))
 
 -- Of a log that starts at any offset: header, contacts, and whatever follows them.
-module _ (at n T : ℕ) (cts : List Record) (limits : withinLimits n T ≡ true) (few : length cts ≤ contactsMost) (valid : (c : Record) → Mem c cts → validContact n T c ≡ true) where
+module _ (at n T : ℕ) (cts : List Record) (limits : withinLimits n T ≡ true) (few : length cts ≤ maxContacts) (valid : (c : Record) → Mem c cts → validContact n T c ≡ true) where
   after : State
   after = afterContacts (advance (start at) (Header n T)) (length cts)
 
@@ -113,7 +113,7 @@ module _ (at n T : ℕ) (cts : List Record) (limits : withinLimits n T ≡ true)
       ∙ prepend-success (Header n T ∷ cts) (End (length cts) ∷ [])
 
   -- 8,000 contacts, and one more, whole or cut: 5 at its start
-  pub one-more-refused : length cts ≡ contactsMost → (s : List ℕ) → judgeFrom (start at) (encode (Header n T) ++ (encodeAll cts ++ 67 ∷ 84 ∷ s)) ≡ refused 5 (at + 48004)
+  pub one-more-refused : length cts ≡ maxContacts → (s : List ℕ) → judgeFrom (start at) (encode (Header n T) ++ (encodeAll cts ++ 67 ∷ 84 ∷ s)) ≡ refused 5 (at + 48004)
   unfolding after judgeRecord judgeDecoded follow
   one-more-refused e s =
       contacts-from (67 ∷ 84 ∷ s)
@@ -121,7 +121,7 @@ module _ (at n T : ℕ) (cts : List Record) (limits : withinLimits n T ≡ true)
       ∙ prepend-refused (Header n T ∷ cts) 5 (at + 48004)
     where
       many : oneTooMany after k.Contact ≡ true
-      many = le-leb contactsMost (0 + length cts) (omega arith)
+      many = le-leb maxContacts (0 + length cts) (omega arith)
 
       go : (decode (67 ∷ 84 ∷ s) ≡ d.Cut k.Contact) ⊎ ((a b first last : ℕ) × (decode (67 ∷ 84 ∷ s) ≡ d.Whole (Contact a b first last))) → judgeRecord after (67 ∷ 84 ∷ s) ≡ stop 5 (after .offset)
       go (inl f) = ap (judgeDecoded after (length (67 ∷ 84 ∷ s))) f ∙ judge-kind-too-many after k.Contact _ refl many

@@ -21,7 +21,7 @@ use Rattle.sets.proofs.Bools.{and-in, and-left, and-right, or-left, or-right, o
 use Rattle.sets.proofs.Sets.{in-union-left, in-union-right, of-union, in-only, of-only, insert-in}
 use Rattle.log.specs.declared.record.Record.{Record}
 use Rattle.log.specs.declared.record.Record.the-variants.{Contact}
-use Rattle.log.specs.Limits.{badgesMost}
+use Rattle.log.specs.Limits.{maxBadges}
 use Rattle.log.specs.Judging.{validContact}
 use Rattle.log.specs.Meaning.{covers, inContact}
 use Rattle.log.specs.Days.{neighbours, dayWords}
@@ -235,7 +235,7 @@ module _ (n a b first last : ℕ) (before : List ℕ) where
 
 -- what mark_pair requires at a tick of the contact
 pub pair-fits : (n words a b first last t : ℕ) → Fitting n words (Contact a b first last) → t < last + 1
-    → (n ≤ badgesMost) × (a < n) × (b < n) × (t * n + n ≤ words)
+    → (n ≤ maxBadges) × (a < n) × (b < n) × (t * n + n ≤ words)
 pair-fits n words a b first last t fit h =
     let p = valid-of n (fit .T) a b first last (fit .admissible) in
     (fit .few, p .low, p .high, omega (arith, tick-fits t (fit .T) n (omega (arith, p)), fit .there))

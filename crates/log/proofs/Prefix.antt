@@ -15,7 +15,7 @@ use Rattle.log.specs.declared.record.Record.the-variants.{Header, Contac
 use Rattle.log.specs.declared.record.Decoded.{Decoded}
 use Rattle.log.specs.declared.record.Decoded.the-variants as d
 use Rattle.log.specs.declared.judging.State.{State}
-use Rattle.log.specs.Limits.{contactsMost}
+use Rattle.log.specs.Limits.{maxContacts}
 use Rattle.log.specs.Records.{sizeOf, kindOf, decode}
 use Rattle.log.specs.Judging.{start, advance, Judgement, stop, next, done, judgeKind, judgeValues, judgeDecoded, judgeRecord, prepend, judgeIn, judgeFrom}
 use Rattle.log.proofs.Records.{decode-take}
@@ -24,7 +24,7 @@ use Rattle.log.proofs.Stepping.{Continues, continues, followIn, step-in
 
 -- the bytes that judging can still look at from a state on: a header if there is none yet, the contacts left, an end, and one more
 unfoldable pub reach : State → ℕ
-reach st = 4 * (1 - st .headers) + 6 * (contactsMost - st .contacts) + 7
+reach st = 4 * (1 - st .headers) + 6 * (maxContacts - st .contacts) + 7
 
 drop-take : (i m : ℕ) (s : List ℕ) → drop i (take m s) ≡ take (m - i) (drop i s)
 drop-take zero m s = let e : m - 0 ≡ m = omega arith in rw e
@@ -69,7 +69,7 @@ reach-next : (st : State) (s : List ℕ) (r : Record) (after : State) → Contin
 unfolding reach
 reach-next st s (Header n T) after c = go after (c .moved)
   where
-    go : (x : State) → x ≡ advance st (Header n T) → 4 * (1 - x .headers) + 6 * (contactsMost - x .contacts) + 7 + 4 ≤ 4 * (1 - st .headers) + 6 * (contactsMost - st .contacts) + 7
+    go : (x : State) → x ≡ advance st (Header n T) → 4 * (1 - x .headers) + 6 * (maxContacts - x .contacts) + 7 + 4 ≤ 4 * (1 - st .headers) + 6 * (maxContacts - st .contacts) + 7
     go x e =
         let h : st .headers ≡ 0 = eqb-true _ _ (c .turn) in
         let f : x .headers ≡ st .headers + 1 = ap (λ (y : State). y .headers) e in
@@ -77,9 +77,9 @@ reach-next st s (Header n T) after c = go after (c .moved)
         omega arith
 reach-next st s (Contact a b first last) after c = go after (c .moved)
   where
-    go : (x : State) → x ≡ advance st (Contact a b first last) → 4 * (1 - x .headers) + 6 * (contactsMost - x .contacts) + 7 + 6 ≤ 4 * (1 - st .headers) + 6 * (contactsMost - st .contacts) + 7
+    go : (x : State) → x ≡ advance st (Contact a b first last) → 4 * (1 - x .headers) + 6 * (maxContacts - x .contacts) + 7 + 6 ≤ 4 * (1 - st .headers) + 6 * (maxContacts - st .contacts) + 7
     go x e =
-        let h : st .contacts < contactsMost = leb-false _ _ (c .room) in
+        let h : st .contacts < maxContacts = leb-false _ _ (c .room) in
         let f : x .headers ≡ st .headers = ap (λ (y : State). y .headers) e in
         let g : x .contacts ≡ st .contacts + 1 = ap (λ (y : State). y .contacts) e in
         omega arith

@@ -8,7 +8,7 @@ use Rattle.sets.specs.Bools.{_and_, _or_, isnt}
 use Rattle.sets.proofs.Sets.{not-in-none, ext}
 use Rattle.log.specs.declared.record.Record.{Record}
 use Rattle.log.specs.declared.record.Record.the-variants.{Contact}
-use Rattle.log.specs.Limits.{contactsMost, withinLimits}
+use Rattle.log.specs.Limits.{maxContacts, withinLimits}
 use Rattle.log.specs.Records.{encodeAll}
 use Rattle.log.specs.Outcomes.{Outcome, refused, success}
 use Rattle.log.specs.Judging.{validContact}
@@ -35,7 +35,7 @@ twice = meeting ∷ once
 bytesOf : List Record → List ℕ
 bytesOf cts = encodeAll (logRecords 2 1 cts)
 
-repeated : (cts : List Record) → ((c : Record) → List·Memᴰ c cts → c ≡ meeting) → length cts ≤ contactsMost → IsLog (bytesOf cts) 2 1 cts
+repeated : (cts : List Record) → ((c : Record) → List·Memᴰ c cts → c ≡ meeting) → length cts ≤ maxContacts → IsLog (bytesOf cts) 2 1 cts
 unfolding withinLimits validContact _and_ isnt meeting bytesOf
 repeated cts same few = record { limits = refl; few = few; valid = λ c i. rw (same c i); bytes = refl }
 

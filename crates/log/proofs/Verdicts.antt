@@ -11,7 +11,7 @@ use Rattle.sets.proofs.Bools.{clash}
 use Rattle.log.specs.declared.record.Record.{Record}
 use Rattle.log.specs.declared.record.Record.the-variants.{Header, Contact, End}
 use Rattle.log.specs.declared.judging.State.{State}
-use Rattle.log.specs.Limits.{contactsMost}
+use Rattle.log.specs.Limits.{maxContacts}
 use Rattle.log.specs.Records.{sizeOf, kindOf}
 use Rattle.log.specs.Outcomes.{Outcome, refused, success}
 use Rattle.log.specs.Judging.{start, advance, stop, next, done, validContact, judgeRecord, prepend, judgeFrom, judge}
@@ -85,7 +85,7 @@ summary-start (success rs) log e =
 pub record Reached (log : List ℕ) (st : State) : Type 0 where
   pub inside : st .offset ≤ length log
   pub one : st .headers ≤ 1
-  pub few : st .contacts ≤ contactsMost
+  pub few : st .contacts ≤ maxContacts
   pub same : verdictOf (judge log) ≡ summary st (judgeFrom st (drop (st .offset) log))
 
 pub reached-start : (log : List ℕ) → Reached log (start 0)
@@ -118,10 +118,10 @@ reached-next log st r after g e =
     headers (Contact a b first last) c = let m : after .headers ≡ st .headers = ap (λ (x : State). x .headers) (c .moved) in omega (arith, g .one)
     headers (End count) c = absurd (c .sound)
 
-    contacts : (r : Record) → Continues st (rest log st) r after → after .contacts ≤ contactsMost
+    contacts : (r : Record) → Continues st (rest log st) r after → after .contacts ≤ maxContacts
     contacts (Header n T) c = let m : after .contacts ≡ st .contacts = ap (λ (x : State). x .contacts) (c .moved) in omega (arith, g .few)
     contacts (Contact a b first last) c =
-        let h : st .contacts < contactsMost = leb-false _ _ (c .room) in
+        let h : st .contacts < maxContacts = leb-false _ _ (c .room) in
         let m : after .contacts ≡ st .contacts + 1 = ap (λ (x : State). x .contacts) (c .moved) in
         omega arith
     contacts (End count) c = absurd (c .sound)

@@ -5,14 +5,14 @@ use Prim.Native.Nat.{ℕ, _≤_}
 use native.Mathlib.Nat.{mul-le-mul}
 use borrow.Author.Tests.{leb-true, le-leb}
 use Rattle.sets.proofs.Bools.{and-in, and-left, and-right}
-use Rattle.log.specs.Limits.{badgesMost, ticksMost, withinLimits, wordsFor}
+use Rattle.log.specs.Limits.{maxBadges, maxTicks, withinLimits, wordsFor}
 
 -- n and T are within their limits
 pub record Limits (n T : ℕ) : Type 0 where
   pub some : 1 ≤ n
-  pub few : n ≤ badgesMost
+  pub few : n ≤ maxBadges
   pub long : 1 ≤ T
-  pub short : T ≤ ticksMost
+  pub short : T ≤ maxTicks
 
 -- the test for the limits passes exactly when n and T are within them
 pub limits-of : {n T : ℕ} → withinLimits n T ≡ true → Limits n T

@@ -1,4 +1,4 @@
--- What the parts of filling leave in the words.
+-- What the parts of filling leave in the words. Private functions cite them; no promise rests on them.
 use mathlib.Core.Bool.{Bool, true}
 use mathlib.Core.List.{List, _++_}
 use mathlib.Core.Path.{_≡_}
@@ -8,7 +8,7 @@ use Rattle.sets.specs.Bools.{_or_}
 use Rattle.sets.specs.Sets.{union, only}
 use Rattle.log.specs.declared.record.Record.{Record}
 use Rattle.log.specs.declared.record.Record.the-variants.{Header, Contact, End}
-use Rattle.log.specs.Limits.{badgesMost, wordsFor}
+use Rattle.log.specs.Limits.{maxBadges, wordsFor}
 use Rattle.log.specs.Outcomes.{success}
 use Rattle.log.specs.Judging.{judge, validContact}
 use Rattle.log.specs.Meaning.{badgesOf, ticksOf, covers}
@@ -29,7 +29,7 @@ Admissible n T (End count) = Unit {0}
 
 -- a record that so many words have room for
 pub record Fitting (n words : ℕ) (r : Record) : Type 0 where
-  pub few : n ≤ badgesMost
+  pub few : n ≤ maxBadges
   pub T : ℕ
   pub there : wordsFor n T ≤ words
   pub admissible : Admissible n T r

@@ -13,7 +13,7 @@ use Rattle.log.specs.declared.record.Record.the-variants.{Header, Contac
 use Rattle.log.specs.declared.record.Decoded.{Decoded}
 use Rattle.log.specs.declared.record.Decoded.the-variants as d
 use Rattle.log.specs.declared.judging.State.{State}
-use Rattle.log.specs.Limits.{contactsMost, withinLimits}
+use Rattle.log.specs.Limits.{maxContacts, withinLimits}
 use Rattle.log.specs.Records.{sizeOf, kindOf, decode}
 use Rattle.log.specs.Outcomes.{Outcome, refused, success}
 
@@ -43,7 +43,7 @@ expected st k.End = ltb 0 (st .headers)
 -- 5: "this is CT number 8,001"
 abbrev pub oneTooMany : State → Kind → Bool
 oneTooMany st k.Header = false
-oneTooMany st k.Contact = leb contactsMost (st .contacts)
+oneTooMany st k.Contact = leb maxContacts (st .contacts)
 oneTooMany st k.End = false
 
 -- 4: "equal badges, a badge of n or more, first after last, or last of T or more"

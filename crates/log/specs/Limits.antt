@@ -5,18 +5,18 @@ use lib.Dec.{leb}
 use Rattle.sets.specs.Bools.{_and_}
 
 -- the most badges, ticks and contact records
-abbrev pub badgesMost : ℕ
-badgesMost = 64
+abbrev pub maxBadges : ℕ
+maxBadges = 64
 
-abbrev pub ticksMost : ℕ
-ticksMost = 96
+abbrev pub maxTicks : ℕ
+maxTicks = 96
 
-abbrev pub contactsMost : ℕ
-contactsMost = 8000
+abbrev pub maxContacts : ℕ
+maxContacts = 8000
 
 -- "n from 1 to 64", "T from 1 to 96"
 unfoldable pub withinLimits : ℕ → ℕ → Bool
-withinLimits n T = leb 1 n and leb n badgesMost and leb 1 T and leb T ticksMost
+withinLimits n T = leb 1 n and leb n maxBadges and leb 1 T and leb T maxTicks
 
 -- how many words a day of n badges and T ticks takes
 abbrev pub wordsFor : ℕ → ℕ → ℕ

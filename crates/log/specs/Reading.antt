@@ -8,7 +8,7 @@ use lib.ListN.{length, drop}
 use Rattle.sets.specs.Sets.{In}
 use Rattle.log.specs.declared.record.Record.{Record}
 use Rattle.log.specs.declared.record.Record.the-variants.{Header, End}
-use Rattle.log.specs.Limits.{contactsMost, withinLimits, wordsFor}
+use Rattle.log.specs.Limits.{maxContacts, withinLimits, wordsFor}
 use Rattle.log.specs.Records.{encodeAll}
 use Rattle.log.specs.Outcomes.{success}
 use Rattle.log.specs.Judging.{validContact}
@@ -23,7 +23,7 @@ logRecords n T cts = Header n T ∷ cts ++ End (length cts) ∷ []
 -- "A log is one BH, 0 to 8,000 CT, one ED and nothing more", the values being within their limits and the count right.
 pub record IsLog (log : List ℕ) (n T : ℕ) (cts : List Record) : Type 0 where
   pub limits : withinLimits n T ≡ true
-  pub few : length cts ≤ contactsMost
+  pub few : length cts ≤ maxContacts
   pub valid : (c : Record) → List·Memᴰ c cts → validContact n T c ≡ true
   pub bytes : log ≡ encodeAll (logRecords n T cts)
 

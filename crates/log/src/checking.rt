@@ -2,7 +2,7 @@
 ghost use mathlib.Core.Path.{_≡_};
 ghost use Prim.Native.Nat.{_*_, _≤_};
 ghost use lib.ListN.{length};
-ghost use Rattle.log.specs.Limits.{badgesMost, wordsFor};
+ghost use Rattle.log.specs.Limits.{maxBadges, wordsFor};
 ghost use Rattle.log.specs.Days.{isDay};
 ghost use Rattle.log.specs.Calls.{checkOf, checkedOutcome};
 use crate::limits::within_limits;
@@ -18,7 +18,7 @@ pub enum Checked {
 // Whether the words are a day: the search walks the set bits tick by tick, badge by badge, and stops at the first pair that breaks it,
 // a bit that is the badge's own, is n or more, or has no mirror.
 fn is_day(words: &[u64], n: usize, ticks: usize) -> bool
-    requires { ⌜ (n ≤ badgesMost) × (wordsFor n ticks ≤ length (now words)) ⌝ }
+    requires { ⌜ (n ≤ maxBadges) × (wordsFor n ticks ≤ length (now words)) ⌝ }
     ensures { λ r. ⌜ r ≡ isDay n ticks (now (words .entry)) ⌝ }
 {
     let mut good = true;

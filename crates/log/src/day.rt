@@ -3,7 +3,7 @@ ghost use mathlib.Core.Path.{_≡_};
 ghost use mathlib.Core.List.{_++_, List};
 ghost use Prim.Native.Nat.{ℕ, _+_, _*_, _<_, _≤_};
 ghost use lib.ListN.{length, drop, replicate};
-ghost use Rattle.log.specs.Limits.{badgesMost, wordsFor};
+ghost use Rattle.log.specs.Limits.{maxBadges, wordsFor};
 ghost use Rattle.log.specs.Outcomes.{success};
 ghost use Rattle.log.specs.Judging.{judge};
 ghost use Rattle.log.specs.Days.{dayOf};
@@ -27,7 +27,7 @@ fn clear(words: &mut [u64], count: usize)
 
 // Badges a and b are in contact in tick t.
 fn mark_pair(words: &mut [u64], n: usize, t: usize, a: usize, b: usize)
-    requires { ⌜ (n ≤ badgesMost) × (a < n) × (b < n) × (t * n + n ≤ length (now words)) ⌝ }
+    requires { ⌜ (n ≤ maxBadges) × (a < n) × (b < n) × (t * n + n ≤ length (now words)) ⌝ }
     ensures { λ _. ⌜ now (words .exit) ≡ marked n (marked n (now (words .entry)) t a b) t b a ⌝ }
 {
     let i = t * n + a;
@@ -66,7 +66,7 @@ fn mark_record(words: &mut [u64], n: usize, record: Record)
 }
 
 // Sets the first n×T words to the day of an accepted log.
-pub fn fill(log: &[u8], badges: usize, ticks: usize, words: &mut [u64])
+pub(crate) fn fill(log: &[u8], badges: usize, ticks: usize, words: &mut [u64])
     requires { ⌜ Accepts (now log) badges ticks × (wordsFor badges ticks ≤ length (now words)) ⌝ }
     ensures { λ _. ⌜ ((rs : List Record) → judge (now (log .entry)) ≡ success rs → now (words .exit) ≡ dayOf rs ++ drop (wordsFor badges ticks) (now (words .entry))) ⌝ }
 {

@@ -6,7 +6,7 @@ ghost use Rattle.log.specs.Records.{kindOf, sizeOf};
 ghost use Rattle.log.specs.Judging.{Judgement, start, advance, expected, oneTooMany, validContact, judgeKind, judgeValues, judgeRecord, judge};
 ghost use Rattle.log.specs.Steps.{Bounded, stepOf, unlessRefused};
 ghost use Rattle.log.specs.Calls.{verdictOf, verdictOutcome};
-use crate::limits::CONTACTS_MOST;
+use crate::limits::MAX_CONTACTS;
 use crate::limits::within_limits;
 use crate::record::Decoded;
 use crate::record::Kind;
@@ -117,7 +117,7 @@ fn one_too_many(state: State, kind: Kind) -> bool
 {
     match kind {
         Kind::Header => false,
-        Kind::Contact => CONTACTS_MOST <= state.contacts,
+        Kind::Contact => MAX_CONTACTS <= state.contacts,
         Kind::End => false,
     }
 }
@@ -212,7 +212,7 @@ fn judge_record(state: State, rest: &[u8]) -> Step
 }
 
 // The verdict on a log: after each record, the decoder gets the rest of the bytes.
-pub fn judge(log: &[u8]) -> Verdict
+pub(crate) fn judge(log: &[u8]) -> Verdict
     ensures { λ r. ⌜ verdictOutcome r ≡ verdictOf (judge (now (log .entry))) ⌝ }
 {
     let mut state = start(0);

@@ -2,11 +2,11 @@
 ghost use mathlib.Core.Path.{_≡_};
 ghost use Rattle.log.specs.Limits.{withinLimits};
 
-pub const BADGES_MOST: usize = 64;
+pub const MAX_BADGES: usize = 64;
 
-pub const TICKS_MOST: usize = 96;
+pub const MAX_TICKS: usize = 96;
 
-pub const CONTACTS_MOST: usize = 8000;
+pub const MAX_CONTACTS: usize = 8000;
 
 // Whether n and T are within their limits.
 pub fn within_limits(badges: usize, ticks: usize) -> bool
@@ -15,13 +15,13 @@ pub fn within_limits(badges: usize, ticks: usize) -> bool
     if badges < 1 {
         return false;
     }
-    if BADGES_MOST < badges {
+    if MAX_BADGES < badges {
         return false;
     }
     if ticks < 1 {
         return false;
     }
-    if TICKS_MOST < ticks {
+    if MAX_TICKS < ticks {
         return false;
     }
     true

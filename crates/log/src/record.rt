@@ -38,7 +38,7 @@ pub enum Mark {
     Unknown,
 }
 
-pub fn kind_of(record: Record) -> Kind
+pub(crate) fn kind_of(record: Record) -> Kind
     ensures { λ r. ⌜ r ≡ kindOf «record» ⌝ }
 {
     match record {
