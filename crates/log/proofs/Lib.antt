@@ -14,5 +14,6 @@ pub mod Filled
 pub mod ReadCall
 pub mod Theorems
 pub mod Substitutes
+pub mod Examples
 pub mod Scan
 pub mod Checks
