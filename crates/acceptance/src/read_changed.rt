@@ -1,0 +1,62 @@
+// D1's log cut short at every length, and with every byte changed.
+use crate::bytes::byte_at;
+use crate::bytes::first_bytes;
+use crate::bytes::set_byte;
+use crate::read_cases::judged;
+use crate::tally::Tally;
+
+// Each prefix of a log, from no byte to all of them.
+fn prefixes_of(tally: Tally, log: &[u8]) -> Tally {
+    let mut t = tally;
+    for len in 0..log.len() + 1 {
+        t = judged(t, first_bytes(log, len), 20);
+    }
+    t
+}
+
+pub(crate) fn prefixes() -> Tally {
+    let tidy =
+        b"BH\x04\x03CT\x00\x01\x00\x01CT\x00\x02\x00\x01CT\x01\x02\x00\x01CT\x02\x03\x00\x02ED\x04\x00\x00\x00";
+    prefixes_of(Tally::none(), tidy)
+}
+
+// A log with byte i set to each of some values in turn; then the byte is put back. A change can make the day larger.
+fn change_byte(tally: Tally, log: &mut [u8], i: usize) -> Tally {
+    let values = [
+        0usize,
+        1,
+        2,
+        3,
+        4,
+        5,
+        64,
+        65,
+        66,
+        67,
+        68,
+        69,
+        72,
+        84,
+        96,
+        97,
+        255,
+    ];
+    let kept = byte_at(log, i);
+    let mut t = tally;
+    for j in 0..17 {
+        set_byte(log, i, values[j]);
+        t = judged(t, log, 400);
+    }
+    set_byte(log, i, kept);
+    t
+}
+
+pub(crate) fn changed_bytes() -> Tally {
+    let mut log =
+        *b"BH\x04\x03CT\x00\x01\x00\x01CT\x00\x02\x00\x01CT\x01\x02\x00\x01CT\x02\x03\x00\x02ED\x04\x00\x00\x00";
+    let mut t = Tally::none();
+    for i in 0..34 {
+        t = change_byte(t, &mut log, i);
+    }
+    t
+}

@@ -1,0 +1,111 @@
+// Logs with as many contacts as a log may have, and with one more; and days of full size.
+ghost use mathlib.Core.Path.{_≡_};
+ghost use Prim.Native.Nat.{_+_, _*_, _≤_, _<_};
+use crate::answer::Answer;
+use crate::bytes::first_bytes;
+use crate::bytes::put_contact;
+use crate::bytes::put_end;
+use crate::bytes::put_header;
+use crate::random::SEED;
+use crate::random_logs::put_log;
+use crate::read_cases::by_hand;
+use crate::tally::Tally;
+
+// A log of 4 badges and 3 ticks with so many contacts, some of them the same, and their count.
+fn long_log(log: &mut [u8], contacts: usize)
+    requires { ⌜ contacts ≤ 8001 ⌝ }
+{
+    put_header(log, 4, 3);
+    for k in 0..contacts {
+        put_contact(log, k, k % 4, (k + 1) % 4, k % 3, 2);
+    }
+    put_end(log, contacts, contacts);
+}
+
+// 8,000 contacts: the whole log of 48,010 bytes, cut in its last two records, and with bytes after it.
+fn cuts_at_limit(t: Tally, log: &[u8]) -> Tally {
+    let t = by_hand(t, first_bytes(log, 48010), 20, Answer::accepted(4, 3, 8000));
+    let t = by_hand(t, first_bytes(log, 48010), 11, Answer::refused(8, 0));
+    let t = by_hand(t, first_bytes(log, 48009), 20, Answer::refused(1, 48004));
+    let t = by_hand(t, first_bytes(log, 48006), 20, Answer::refused(1, 48004));
+    let t = by_hand(t, first_bytes(log, 48005), 20, Answer::refused(1, 48004));
+    let t = by_hand(t, first_bytes(log, 48004), 20, Answer::refused(1, 48004));
+    let t = by_hand(t, first_bytes(log, 48003), 20, Answer::refused(1, 47998));
+    let t = by_hand(t, first_bytes(log, 48011), 20, Answer::refused(7, 48010));
+    by_hand(t, log, 20, Answer::refused(7, 48010))
+}
+
+// 8,000 contacts; then with another count; then with a bad contact as the last of them.
+fn at_limit(tally: Tally) -> Tally {
+    let mut log = [0u8; 48100];
+    long_log(&mut log, 8000);
+    let t = cuts_at_limit(tally, &log);
+    put_end(&mut log, 8000, 7999);
+    let t = by_hand(t, first_bytes(&log, 48010), 20, Answer::refused(6, 48004));
+    put_contact(&mut log, 7999, 1, 1, 0, 0);
+    by_hand(t, first_bytes(&log, 48010), 20, Answer::refused(4, 47998))
+}
+
+// 8,001 contacts: refused as soon as the mark of the last is there.
+fn cuts_over_limit(t: Tally, log: &[u8]) -> Tally {
+    let t = by_hand(t, first_bytes(log, 48016), 20, Answer::refused(5, 48004));
+    let t = by_hand(t, first_bytes(log, 48016), 0, Answer::refused(5, 48004));
+    let t = by_hand(t, first_bytes(log, 48010), 20, Answer::refused(5, 48004));
+    let t = by_hand(t, first_bytes(log, 48008), 20, Answer::refused(5, 48004));
+    let t = by_hand(t, first_bytes(log, 48006), 20, Answer::refused(5, 48004));
+    by_hand(t, first_bytes(log, 48005), 20, Answer::refused(1, 48004))
+}
+
+// 8,001 contacts; then with a bad one as the last; then with a bad one before it.
+fn over_limit(tally: Tally) -> Tally {
+    let mut log = [0u8; 48100];
+    long_log(&mut log, 8001);
+    let t = cuts_over_limit(tally, &log);
+    put_contact(&mut log, 8000, 1, 1, 9, 0);
+    let t = by_hand(t, first_bytes(&log, 48016), 20, Answer::refused(5, 48004));
+    put_contact(&mut log, 7999, 1, 1, 9, 0);
+    by_hand(t, first_bytes(&log, 48016), 20, Answer::refused(4, 47998))
+}
+
+// Puts the contacts of badge a with each lower badge, through all 96 ticks, as records k and up. Gives the record after them.
+fn put_lower(log: &mut [u8], k: usize, a: usize) -> usize
+    requires { ⌜ a < 64 ⌝ }
+    requires { ⌜ k ≤ 4096 ⌝ }
+    ensures { λ r. ⌜ r ≡ k + a ⌝ }
+{
+    for b in 0..a {
+        put_contact(log, k + b, a, b, 0, 95);
+    }
+    k + a
+}
+
+// A log of 64 badges and 96 ticks, with every two badges in contact all day.
+fn put_full(log: &mut [u8]) {
+    put_header(log, 64, 96);
+    let mut k = 0;
+    for a in 0..64 {
+        k = put_lower(log, k, a);
+    }
+    put_end(log, k, k);
+}
+
+// That log has 2,016 contacts and 12,106 bytes.
+fn full_day(tally: Tally) -> Tally {
+    let mut log = [0u8; 12106];
+    put_full(&mut log);
+    let t = by_hand(tally, &log, 6200, Answer::accepted(64, 96, 2016));
+    by_hand(t, &log, 6143, Answer::refused(8, 0))
+}
+
+// 64 badges and 96 ticks, with 8,000 random contacts.
+fn random_day(tally: Tally) -> Tally {
+    let mut state = SEED;
+    let mut log = [0u8; 48010];
+    put_log(&mut log, 64, 96, 8000, &mut state);
+    by_hand(tally, &log, 6200, Answer::accepted(64, 96, 8000))
+}
+
+pub(crate) fn many() -> Tally {
+    let t = over_limit(at_limit(Tally::none()));
+    random_day(full_day(t))
+}
