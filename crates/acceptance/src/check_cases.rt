@@ -1,9 +1,9 @@
 // Cases of the check of words: days, days that one bit breaks, sizes outside the limits, and too few words.
-ghost use Prim.Native.Nat.{_≤_, _<_};
 use crate::answer;
 use crate::answer::Answer;
 use crate::bytes::first_bytes;
-use crate::checking::judge_words;
+use crate::d1::WORDS;
+use crate::judge_words::judge_words;
 use crate::random::SEED;
 use crate::random::draw;
 use crate::random_logs::put_small;
@@ -15,13 +15,13 @@ use crate::words::words_for;
 // A case whose number is the second judge's.
 fn judged(tally: Tally, words: &[u64], n: usize, ticks: usize) -> Tally {
     let expected = Answer::checked(judge_words(words, n, ticks));
-    tally.with(expected.same(answer::check_words(words, n, ticks)))
+    tally.with_case(expected.same(answer::check_words(words, n, ticks)))
 }
 
 // A case whose number is written by hand, 0 for a day. The second judge has to give it, too.
 fn by_hand(tally: Tally, words: &[u64], n: usize, ticks: usize, number: usize) -> Tally {
     let expected = Answer::checked(number);
-    tally.with(
+    tally.with_case(
         number == judge_words(words, n, ticks)
             && expected.same(answer::check_words(words, n, ticks)),
     )
@@ -29,22 +29,7 @@ fn by_hand(tally: Tally, words: &[u64], n: usize, ticks: usize, number: usize) -
 
 // D1's words with two more after them, and sizes of every kind.
 pub(crate) fn sizes() -> Tally {
-    let words = [
-        6u64,
-        5,
-        11,
-        4,
-        6,
-        5,
-        11,
-        4,
-        0,
-        0,
-        8,
-        4,
-        0xffff_ffff_ffff_ffff,
-        1,
-    ];
+    let words = WORDS;
     let huge = 0xffff_ffff_ffff_ffff;
     let t = by_hand(Tally::none(), &words, 4, 3, 0);
     let t = by_hand(t, &words[..12], 4, 3, 0);
@@ -66,22 +51,7 @@ pub(crate) fn sizes() -> Tally {
 
 // D1's words, one of them changed, as n 4 and T 3.
 fn with_word(tally: Tally, i: usize, word: u64, number: usize) -> Tally {
-    let mut words = [
-        6u64,
-        5,
-        11,
-        4,
-        6,
-        5,
-        11,
-        4,
-        0,
-        0,
-        8,
-        4,
-        0xffff_ffff_ffff_ffff,
-        1,
-    ];
+    let mut words = WORDS;
     set_word(&mut words, i, word);
     by_hand(tally, &words, 4, 3, number)
 }
@@ -101,22 +71,7 @@ pub(crate) fn broken() -> Tally {
 
 // Each bit of word i turned over: within D1's twelve words that breaks the day, after them it does not.
 fn turn_bits(tally: Tally, i: usize, number: usize) -> Tally {
-    let d1 = [
-        6u64,
-        5,
-        11,
-        4,
-        6,
-        5,
-        11,
-        4,
-        0,
-        0,
-        8,
-        4,
-        0xffff_ffff_ffff_ffff,
-        1,
-    ];
+    let d1 = WORDS;
     let word = word_at(&d1, i);
     let mut t = tally;
     for v in 0..64usize {
@@ -125,6 +80,7 @@ fn turn_bits(tally: Tally, i: usize, number: usize) -> Tally {
     t
 }
 
+// Each bit of all fourteen words turned over.
 pub(crate) fn turned_bits() -> Tally {
     let mut t = Tally::none();
     for i in 0..12 {
@@ -133,9 +89,16 @@ pub(crate) fn turned_bits() -> Tally {
     turn_bits(turn_bits(t, 12, 0), 13, 0)
 }
 
-// The number of the check where n, T and the words are as read left them: a day, or no n at all where read refused.
-fn after_read(got: Answer) -> usize {
-    if got.number == 0 { 0 } else { 10 }
+// The largest day: without a contact, with one in its last tick, with its mirror missing, and with a word too few.
+pub(crate) fn largest() -> Tally {
+    let mut words = [0u64; 6144];
+    let t = by_hand(Tally::none(), &words, 64, 96, 0);
+    let t = by_hand(t, &words[..6143], 64, 96, 8);
+    set_word(&mut words, 6143, 1);
+    let t = by_hand(t, &words, 64, 96, 11);
+    let t = by_hand(t, &words, 64, 95, 0);
+    set_word(&mut words, 6080, 0x8000_0000_0000_0000);
+    by_hand(t, &words, 64, 96, 0)
 }
 
 // Words handed over with n and T, with a random bit turned over.
@@ -144,6 +107,11 @@ fn with_bit(tally: Tally, words: &mut [u64], n: usize, ticks: usize, state: &mut
     let v = draw(state, 64);
     set_word(words, i, word_at(words, i) ^ (1 << v));
     judged(tally, words, n, ticks)
+}
+
+// The number of the check where n, T and the words are as read left them: a day, or no n at all where read refused.
+fn after_read(got: Answer) -> usize {
+    if got.number == 0 { 0 } else { 10 }
 }
 
 // The words that read leaves of a log, with others after them: a day. Then they are tried at another size, and with a bit turned over.
@@ -156,6 +124,7 @@ fn words_of(tally: Tally, log: &[u8], words: &mut [u64], state: &mut u64) -> Tal
     with_bit(t, words, n, ticks, state)
 }
 
+// A random log's words.
 fn random_case(tally: Tally, state: &mut u64) -> Tally {
     let mut log = [0u8; 256];
     let mut words = [0u64; 6200];
@@ -163,6 +132,7 @@ fn random_case(tally: Tally, state: &mut u64) -> Tally {
     words_of(tally, first_bytes(&log, len), &mut words, state)
 }
 
+// The words of 150 random logs.
 pub(crate) fn random() -> Tally {
     let mut state = SEED;
     let mut t = Tally::none();

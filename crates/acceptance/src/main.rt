@@ -3,8 +3,9 @@
 mod answer;
 mod bytes;
 mod check_cases;
-mod checking;
-mod judge;
+mod d1;
+mod judge_logs;
+mod judge_words;
 mod random;
 mod random_logs;
 mod read_cases;
@@ -48,8 +49,9 @@ fn check_families() -> Tally {
         b"check_words: D1's words with one bit turned over",
         check_cases::turned_bits(),
     );
-    let d = print(b"check_words: words of random logs", check_cases::random());
-    a.plus(b).plus(c).plus(d)
+    let d = print(b"check_words: the largest day", check_cases::largest());
+    let e = print(b"check_words: words of random logs", check_cases::random());
+    a.plus(b).plus(c).plus(d).plus(e)
 }
 
 fn main() {

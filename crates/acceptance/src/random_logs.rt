@@ -25,7 +25,7 @@ fn put_new(log: &mut [u8], k: usize, n: usize, ticks: usize, state: &mut u64)
     }
 }
 
-// Puts the pair of record k from the other side as record k + 1, over the span from that one's last tick to a tick after it.
+// Puts the pair of record k from the other side as record k + 1: from that one's last tick on, or over the same ticks where the day ends.
 fn put_piece(log: &mut [u8], k: usize, ticks: usize, state: &mut u64)
     requires { ⌜ k < 8001 ⌝ }
 {

@@ -2,7 +2,10 @@
 ghost use Prim.Native.Nat.{_≤_};
 use crate::answer;
 use crate::answer::Answer;
-use crate::judge::judge_read;
+use crate::d1::MESSY;
+use crate::d1::TIDY;
+use crate::d1::WORDS;
+use crate::judge_logs::judge_read;
 use crate::tally::Tally;
 use crate::words::fill_expected;
 use crate::words::pattern;
@@ -33,54 +36,36 @@ fn reads_as(log: &[u8], lent: usize, expected: Answer) -> bool
 pub(crate) fn judged(tally: Tally, log: &[u8], lent: usize) -> Tally
     requires { ⌜ lent ≤ 6200 ⌝ }
 {
-    tally.with(reads_as(log, lent, judge_read(log, lent)))
+    tally.with_case(reads_as(log, lent, judge_read(log, lent)))
 }
 
 // A case whose answer is written by hand. The second judge has to give it, too.
 pub(crate) fn by_hand(tally: Tally, log: &[u8], lent: usize, expected: Answer) -> Tally
     requires { ⌜ lent ≤ 6200 ⌝ }
 {
-    tally.with(expected.same(judge_read(log, lent)) && reads_as(log, lent, expected))
+    tally.with_case(expected.same(judge_read(log, lent)) && reads_as(log, lent, expected))
 }
 
 // A log of D1 with so many contacts: lent just enough words and more, where D1's words are written by hand, then one too few, and none.
 fn d1_from(tally: Tally, log: &[u8], contacts: usize) -> Tally {
-    let d1 = Answer::accepted(4, 3, contacts);
+    let day = Answer::accepted(4, 3, contacts);
     let few = Answer::refused(8, 0);
-    let exact = [6u64, 5, 11, 4, 6, 5, 11, 4, 0, 0, 8, 4];
-    let more = [
-        6u64,
-        5,
-        11,
-        4,
-        6,
-        5,
-        11,
-        4,
-        0,
-        0,
-        8,
-        4,
-        pattern(12),
-        pattern(13),
-    ];
     let mut twelve = [0u64; 12];
     let mut fourteen = [0u64; 14];
-    let t = tally.with(leaves(log, &mut twelve, &exact, d1));
-    let t = t.with(leaves(log, &mut fourteen, &more, d1));
-    let t = by_hand(t, log, 12, d1);
-    let t = by_hand(t, log, 6200, d1);
+    let mut more = WORDS;
+    more[12] = pattern(12);
+    more[13] = pattern(13);
+    let t = tally.with_case(leaves(log, &mut twelve, &more[..12], day));
+    let t = t.with_case(leaves(log, &mut fourteen, &more, day));
+    let t = by_hand(t, log, 12, day);
+    let t = by_hand(t, log, 6200, day);
     let t = by_hand(t, log, 11, few);
     by_hand(t, log, 0, few)
 }
 
-// Document 01's D1: its tidy log, and the one of 40 bytes with 0–1 given last, in two pieces, once from either side.
+// Both logs of D1.
 pub(crate) fn d1() -> Tally {
-    let tidy =
-        b"BH\x04\x03CT\x00\x01\x00\x01CT\x00\x02\x00\x01CT\x01\x02\x00\x01CT\x02\x03\x00\x02ED\x04\x00\x00\x00";
-    let messy =
-        b"BH\x04\x03CT\x00\x02\x00\x01CT\x01\x02\x00\x01CT\x02\x03\x00\x02CT\x01\x00\x01\x01CT\x00\x01\x00\x00ED\x05\x00\x00\x00";
-    d1_from(d1_from(Tally::none(), tidy, 4), messy, 5)
+    d1_from(d1_from(Tally::none(), &TIDY, 4), &MESSY, 5)
 }
 
 // No bytes at all.

@@ -2,6 +2,7 @@
 use crate::bytes::byte_at;
 use crate::bytes::first_bytes;
 use crate::bytes::set_byte;
+use crate::d1::TIDY;
 use crate::read_cases::judged;
 use crate::tally::Tally;
 
@@ -14,33 +15,35 @@ fn prefixes_of(tally: Tally, log: &[u8]) -> Tally {
     t
 }
 
+// Each prefix of D1's tidy log.
 pub(crate) fn prefixes() -> Tally {
-    let tidy =
-        b"BH\x04\x03CT\x00\x01\x00\x01CT\x00\x02\x00\x01CT\x01\x02\x00\x01CT\x02\x03\x00\x02ED\x04\x00\x00\x00";
-    prefixes_of(Tally::none(), tidy)
+    prefixes_of(Tally::none(), &TIDY)
 }
 
-// A log with byte i set to each of some values in turn; then the byte is put back. A change can make the day larger.
+// The values that bytes are changed to: limits of n and T, one past them, the bytes of marks, and others.
+const VALUES: [usize; 17] = [
+    0,
+    1,
+    2,
+    3,
+    4,
+    5,
+    64,
+    65,
+    66,
+    67,
+    68,
+    69,
+    72,
+    84,
+    96,
+    97,
+    255,
+];
+
+// A log with byte i set to each of those values in turn; then the byte is put back. A change can make the day larger.
 fn change_byte(tally: Tally, log: &mut [u8], i: usize) -> Tally {
-    let values = [
-        0usize,
-        1,
-        2,
-        3,
-        4,
-        5,
-        64,
-        65,
-        66,
-        67,
-        68,
-        69,
-        72,
-        84,
-        96,
-        97,
-        255,
-    ];
+    let values = VALUES;
     let kept = byte_at(log, i);
     let mut t = tally;
     for j in 0..17 {
@@ -51,9 +54,9 @@ fn change_byte(tally: Tally, log: &mut [u8], i: usize) -> Tally {
     t
 }
 
+// D1's tidy log with each byte changed.
 pub(crate) fn changed_bytes() -> Tally {
-    let mut log =
-        *b"BH\x04\x03CT\x00\x01\x00\x01CT\x00\x02\x00\x01CT\x01\x02\x00\x01CT\x02\x03\x00\x02ED\x04\x00\x00\x00";
+    let mut log = TIDY;
     let mut t = Tally::none();
     for i in 0..34 {
         t = change_byte(t, &mut log, i);

@@ -22,38 +22,50 @@ fn long_log(log: &mut [u8], contacts: usize)
     put_end(log, contacts, contacts);
 }
 
+// The first bytes of a log are refused, though more words are lent than its day has.
+fn refuses(tally: Tally, log: &[u8], len: usize, number: usize, offset: usize) -> Tally {
+    by_hand(
+        tally,
+        first_bytes(log, len),
+        20,
+        Answer::refused(number, offset),
+    )
+}
+
 // 8,000 contacts: the whole log of 48,010 bytes, cut in its last two records, and with bytes after it.
 fn cuts_at_limit(t: Tally, log: &[u8]) -> Tally {
     let t = by_hand(t, first_bytes(log, 48010), 20, Answer::accepted(4, 3, 8000));
     let t = by_hand(t, first_bytes(log, 48010), 11, Answer::refused(8, 0));
-    let t = by_hand(t, first_bytes(log, 48009), 20, Answer::refused(1, 48004));
-    let t = by_hand(t, first_bytes(log, 48006), 20, Answer::refused(1, 48004));
-    let t = by_hand(t, first_bytes(log, 48005), 20, Answer::refused(1, 48004));
-    let t = by_hand(t, first_bytes(log, 48004), 20, Answer::refused(1, 48004));
-    let t = by_hand(t, first_bytes(log, 48003), 20, Answer::refused(1, 47998));
-    let t = by_hand(t, first_bytes(log, 48011), 20, Answer::refused(7, 48010));
-    by_hand(t, log, 20, Answer::refused(7, 48010))
+    let t = refuses(t, log, 48009, 1, 48004);
+    let t = refuses(t, log, 48006, 1, 48004);
+    let t = refuses(t, log, 48005, 1, 48004);
+    let t = refuses(t, log, 48004, 1, 48004);
+    let t = refuses(t, log, 48003, 1, 47998);
+    let t = refuses(t, log, 48011, 7, 48010);
+    refuses(t, log, 48100, 7, 48010)
 }
 
-// 8,000 contacts; then with another count; then with a bad contact as the last of them.
+// 8,000 contacts; then with other counts; then with a bad contact as the last of them.
 fn at_limit(tally: Tally) -> Tally {
     let mut log = [0u8; 48100];
     long_log(&mut log, 8000);
     let t = cuts_at_limit(tally, &log);
     put_end(&mut log, 8000, 7999);
-    let t = by_hand(t, first_bytes(&log, 48010), 20, Answer::refused(6, 48004));
+    let t = refuses(t, &log, 48010, 6, 48004);
+    put_end(&mut log, 8000, 8000 + 65536);
+    let t = refuses(t, &log, 48010, 6, 48004);
     put_contact(&mut log, 7999, 1, 1, 0, 0);
-    by_hand(t, first_bytes(&log, 48010), 20, Answer::refused(4, 47998))
+    refuses(t, &log, 48010, 4, 47998)
 }
 
 // 8,001 contacts: refused as soon as the mark of the last is there.
 fn cuts_over_limit(t: Tally, log: &[u8]) -> Tally {
-    let t = by_hand(t, first_bytes(log, 48016), 20, Answer::refused(5, 48004));
-    let t = by_hand(t, first_bytes(log, 48016), 0, Answer::refused(5, 48004));
-    let t = by_hand(t, first_bytes(log, 48010), 20, Answer::refused(5, 48004));
-    let t = by_hand(t, first_bytes(log, 48008), 20, Answer::refused(5, 48004));
-    let t = by_hand(t, first_bytes(log, 48006), 20, Answer::refused(5, 48004));
-    by_hand(t, first_bytes(log, 48005), 20, Answer::refused(1, 48004))
+    let t = refuses(t, log, 48016, 5, 48004);
+    let t = refuses(t, log, 48010, 5, 48004);
+    let t = refuses(t, log, 48008, 5, 48004);
+    let t = refuses(t, log, 48006, 5, 48004);
+    let t = refuses(t, log, 48005, 1, 48004);
+    by_hand(t, log, 0, Answer::refused(5, 48004))
 }
 
 // 8,001 contacts; then with a bad one as the last; then with a bad one before it.
@@ -62,9 +74,9 @@ fn over_limit(tally: Tally) -> Tally {
     long_log(&mut log, 8001);
     let t = cuts_over_limit(tally, &log);
     put_contact(&mut log, 8000, 1, 1, 9, 0);
-    let t = by_hand(t, first_bytes(&log, 48016), 20, Answer::refused(5, 48004));
+    let t = refuses(t, &log, 48016, 5, 48004);
     put_contact(&mut log, 7999, 1, 1, 9, 0);
-    by_hand(t, first_bytes(&log, 48016), 20, Answer::refused(4, 47998))
+    refuses(t, &log, 48016, 4, 47998)
 }
 
 // Puts the contacts of badge a with each lower badge, through all 96 ticks, as records k and up. Gives the record after them.
@@ -105,6 +117,7 @@ fn random_day(tally: Tally) -> Tally {
     by_hand(tally, &log, 6200, Answer::accepted(64, 96, 8000))
 }
 
+// All of them.
 pub(crate) fn many() -> Tally {
     let t = over_limit(at_limit(Tally::none()));
     random_day(full_day(t))

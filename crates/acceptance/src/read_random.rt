@@ -45,6 +45,7 @@ fn lent_for(log: &[u8], state: &mut u64) -> usize
     count + draw(state, 20)
 }
 
+// A random log, perhaps damaged, lent mostly enough words.
 fn random_case(tally: Tally, state: &mut u64) -> Tally {
     let mut log = [0u8; 256];
     let whole = put_small(&mut log, state);
@@ -53,6 +54,7 @@ fn random_case(tally: Tally, state: &mut u64) -> Tally {
     judged(tally, first_bytes(&log, len), lent)
 }
 
+// 2,000 random logs.
 pub(crate) fn random() -> Tally {
     let mut state = SEED;
     let mut t = Tally::none();

@@ -14,7 +14,7 @@ impl Tally {
     }
 
     // One case more.
-    pub(crate) fn with(self, right: bool) -> Tally {
+    pub(crate) fn with_case(self, right: bool) -> Tally {
         let one = Tally {
             run: 1,
             wrong: if right { 0 } else { 1 },

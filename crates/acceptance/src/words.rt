@@ -1,9 +1,7 @@
 // The words of a day, found slowly, and the words that a call is lent. Word i is badge i % n's in tick i / n.
 ghost use Prim.Native.Nat.{_≤_, _<_};
 use crate::answer::Answer;
-use crate::bytes::CT;
 use crate::bytes::byte_at;
-use crate::bytes::mark_at;
 use crate::bytes::place;
 
 // How many words a day of n badges and T ticks has: none beyond the limits.

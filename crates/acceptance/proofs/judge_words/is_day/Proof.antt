@@ -1,8 +1,8 @@
--- `checking::is_day` is safe: a bit of the first words is a word and a bit of it.
+-- `judge_words::is_day` is safe: a bit of the first words is a word and a bit of it.
 use Prim.Native.Nat.{_-_}
 use borrow.Author.Needs.{needs}
-use Rattle.acceptance.proofs.checking.is_day.Statement.{statement}
-use Rattle.acceptance.proofs.checking.is_day.Tie as tie
+use Rattle.acceptance.proofs.judge_words.is_day.Statement.{statement}
+use Rattle.acceptance.proofs.judge_words.is_day.Tie as tie
 
 abbrev Inv-loop : tie.InvT-loop
 Inv-loop words n count bit₀ bit-end bit = Unit

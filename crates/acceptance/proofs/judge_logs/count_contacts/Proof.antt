@@ -1,8 +1,8 @@
--- `judge::count_contacts` is safe, and counts 8,000 at most.
+-- `judge_logs::count_contacts` is safe, and counts 8,000 at most.
 use Prim.Native.Nat.{_-_}
 use borrow.Author.Needs.{needs}
-use Rattle.acceptance.proofs.judge.count_contacts.Statement.{statement}
-use Rattle.acceptance.proofs.judge.count_contacts.Tie as tie
+use Rattle.acceptance.proofs.judge_logs.count_contacts.Statement.{statement}
+use Rattle.acceptance.proofs.judge_logs.count_contacts.Tie as tie
 
 abbrev Inv-loop : tie.InvT-loop
 Inv-loop log n ticks k₀ k = Unit

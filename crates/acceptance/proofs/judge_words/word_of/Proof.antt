@@ -1,8 +1,8 @@
--- `checking::word_of` subtracts a remainder of a number from that number.
+-- `judge_words::word_of` subtracts a remainder of a number from that number.
 use native.Mathlib.Nat.{mod-le}
 use borrow.Author.Needs.{needs}
-use Rattle.acceptance.proofs.checking.word_of.Statement.{statement}
-use Rattle.acceptance.proofs.checking.word_of.Tie as tie
+use Rattle.acceptance.proofs.judge_words.word_of.Statement.{statement}
+use Rattle.acceptance.proofs.judge_words.word_of.Tie as tie
 
 rem-result : tie.Need-rem-result
 rem-result c = search needs
