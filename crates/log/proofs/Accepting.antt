@@ -1,4 +1,4 @@
--- Judging accepts exactly the logs of document 01's grammar: one BH, 0 to 8,000 CT, one ED and nothing more.
+-- What judging accepts is a log of document 01's grammar: one BH, 0 to 8,000 CT, one ED and nothing more. (Grammar has the converse.)
 use mathlib.Core.Path.{_≡_, refl, sym, ap, ap₂, _∙_, subst}
 use mathlib.Core.Bool.{true}
 use mathlib.Core.List.{List, [], _∷_, _++_, List·Memᴰ, List·Memᴰ·head, List·Memᴰ·tail, List·Memᴰ·not-nil}

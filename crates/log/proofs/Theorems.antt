@@ -3,7 +3,7 @@ use mathlib.Core.Path.{_≡_, refl, sym, ap, _∙_, subst}
 use mathlib.Core.Bool.{true}
 use mathlib.Core.List.{List, [], _∷_, _++_, List·Memᴰ·head, List·Memᴰ·tail, List·Memᴰ·append-cases, Memᴰ·append-left, List·Memᴰ·eq-of-singleton}
 use mathlib.Core.Logic.{_⊎_, inl, inr, _↔_}
-use Prim.Native.Nat.{ℕ, _≤_, _<_}
+use Prim.Native.Nat.{ℕ, _+_, _*_, _≤_, _<_}
 use native.Mathlib.Nat.{le-of-eq}
 use native.Mathlib.Omega.{arith}
 use lib.ListN.{length, take, drop, length-append, length-drop}
@@ -11,16 +11,18 @@ use lib.Seq.{drop-at}
 use Rattle.sets.specs.Bytes.{Bytes}
 use Rattle.sets.specs.Sets.{In}
 use Rattle.sets.proofs.Bools.{clash}
+use Rattle.log.specs.declared.record.Kind.the-variants as k
 use Rattle.log.specs.declared.record.Record.{Record}
 use Rattle.log.specs.declared.record.Record.the-variants.{Header, Contact, End}
 use Rattle.log.specs.Limits.{withinLimits, wordsFor}
-use Rattle.log.specs.Records.{encode, encodeAll}
+use Rattle.log.specs.Records.{kindOf, encode, encodeAll}
 use Rattle.log.specs.Outcomes.{refused, success}
 use Rattle.log.specs.Judging.{start, validContact, judgeFrom, judge}
 use Rattle.log.specs.Meaning.{badgesOf, ticksOf, covers, inContact}
 use Rattle.log.specs.Days.{neighbours, dayWords, dayOf, IsDay}
 use Rattle.log.specs.Calls.{valuesOf, Read, readOf, checkOf}
 use Rattle.log.specs.Reading.{logRecords, IsLog, Met, Reads}
+use Rattle.log.proofs.Records.{length-encode, contacts-length, encode-append}
 use Rattle.log.proofs.Judged.{Valid, valid-of}
 use Rattle.log.proofs.Accepting.{Mem, accepted-of}
 use Rattle.log.proofs.Grammar.{grammar-accepted, one-more-refused}
@@ -42,6 +44,22 @@ unfolding judge
 accepted-log log rs b e =
     let a = accepted-of 0 log rs e in
     (a .cts, record { limits = a .limits; few = a .few; valid = a .valid; bytes = a .bytes b ∙ ap encodeAll (a .records) }, a .records)
+
+-- a valid contact is a contact record
+contact-kind : (n T : ℕ) (c : Record) → validContact n T c ≡ true → kindOf c ≡ k.Contact
+unfolding validContact
+contact-kind n T (Header m S) e = absurd (clash e refl)
+contact-kind n T (Contact a b first last) e = refl
+contact-kind n T (End count) e = absurd (clash e refl)
+
+-- A log has 10 bytes and 6 for each contact record.
+pub log-length : (log : List ℕ) (n T : ℕ) (cts : List Record) → IsLog log n T cts → length log ≡ 10 + 6 * length cts
+unfolding logRecords encodeAll
+log-length log n T cts l =
+    let ends = End (length cts) ∷ [] in
+    let e : length (encodeAll ends) ≡ 6 = omega (arith, length-append (encode (End (length cts))) [], length-encode (End (length cts))) in
+    ap length (l .bytes ∙ ap (λ (s : List ℕ). encode (Header n T) ++ s) (encode-append cts ends))
+    ∙ omega (arith, length-append (encode (Header n T)) (encodeAll cts ++ encodeAll ends), length-append (encodeAll cts) (encodeAll ends), length-encode (Header n T), contacts-length cts (λ c i. contact-kind n T c (l .valid c i)))
 
 -- The first 48,011 bytes decide.
 pub judged-by-first : (log : List ℕ) → judge (take 48011 log) ≡ judge log

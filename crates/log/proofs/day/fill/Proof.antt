@@ -1,3 +1,4 @@
+-- `fill` meets its contract: at each turn the words hold the records before the place reached, and the bytes from there on are the others.
 use borrow.Author.Needs.{needs}
 use mathlib.Core.Path.{_≡_, refl, sym, ap, _∙_, subst}
 use mathlib.Core.List.{List, _++_}

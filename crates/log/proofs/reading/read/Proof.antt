@@ -1,3 +1,4 @@
+-- `read` meets its contract: the verdict of judging first, then 8, and then what filling leaves.
 use mathlib.Core.Path.{sym, ap, ap₂, _∙_}
 use mathlib.Core.List.{_++_}
 use Prim.Native.Nat.{ℕ}
