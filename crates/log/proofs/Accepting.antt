@@ -1,5 +1,5 @@
 -- What judging accepts is a log of document 01's grammar: one BH, 0 to 8,000 CT, one ED and nothing more. (Grammar has the converse.)
-use mathlib.Core.Path.{_≡_, refl, sym, ap, ap₂, _∙_, subst}
+use mathlib.Core.Path.{_≡_, refl, sym, ap, _∙_, subst}
 use mathlib.Core.Bool.{true}
 use mathlib.Core.List.{List, [], _∷_, _++_, List·Memᴰ, List·Memᴰ·head, List·Memᴰ·tail, List·Memᴰ·not-nil}
 use Prim.Native.Nat.{ℕ, zero, suc, _+_, _≤_, _<_}
@@ -62,26 +62,21 @@ tail-done st s r h e = record {
 }
   where
     none : drop (sizeOf (kindOf r)) s ≡ []
-    none = rw (e .counted) (drop-of-length-le s {i = 6} (omega (arith, e .last)))
+    none = drop-of-length-le s {i = sizeOf (kindOf r)} (omega (arith, e .last))
 
 -- one contact record more
-tail-next : (st : State) (s : List ℕ) (a b first last : ℕ) (after : State) (rs : List Record) → Continues st s (Contact a b first last) after
-    → Tail after (drop (sizeOf k.Contact) s) rs → Tail st s (Contact a b first last ∷ rs)
+tail-next : (st : State) (s : List ℕ) (a b first last : ℕ) (rs : List Record) → Continues st s (Contact a b first last)
+    → Tail (advance st (Contact a b first last)) (drop (sizeOf k.Contact) s) rs → Tail st s (Contact a b first last ∷ rs)
 unfolding encodeAll
-tail-next st s a b first last after rs c t = go after (c .moved) t
-  where
-    go : (x : State) → x ≡ advance st (Contact a b first last) → Tail x (drop (sizeOf k.Contact) s) rs → Tail st s (Contact a b first last ∷ rs)
-    go x e t =
-        let f : x .contacts ≡ st .contacts + 1 = ap (λ (y : State). y .contacts) e in
-        let l : x .contacts + length (t .cts) ≡ st .contacts + suc (length (t .cts)) = omega arith in
-        record {
-          cts = Contact a b first last ∷ t .cts;
-          shape = ap (λ (y : List Record). Contact a b first last ∷ y) (t .shape ∙ ap (λ (m : ℕ). t .cts ++ End m ∷ []) l);
-          few = omega (arith, t .few);
-          valid = mem-cons (λ (y : Record). validContact (st .badges) (st .ticks) y ≡ true) _ (t .cts) (c .sound)
-              (λ y m. ap₂ (λ (n T : ℕ). validContact n T y) (ap (λ (z : State). z .badges) (sym e)) (ap (λ (z : State). z .ticks) (sym e)) ∙ t .valid y m);
-          bytes = λ w. whole-encode s _ w (c .whole) ∙ ap (λ (y : List ℕ). encode (Contact a b first last) ++ y) (t .bytes (bytes-drop 6 w));
-        }
+tail-next st s a b first last rs c t =
+    let l : st .contacts + 1 + length (t .cts) ≡ st .contacts + suc (length (t .cts)) = omega arith in
+    record {
+      cts = Contact a b first last ∷ t .cts;
+      shape = ap (λ (y : List Record). Contact a b first last ∷ y) (t .shape ∙ ap (λ (m : ℕ). t .cts ++ End m ∷ []) l);
+      few = omega (arith, t .few);
+      valid = mem-cons (λ (y : Record). validContact (st .badges) (st .ticks) y ≡ true) _ (t .cts) (c .sound) (t .valid);
+      bytes = λ w. whole-encode s _ w (c .whole) ∙ ap (λ (y : List ℕ). encode (Contact a b first last) ++ y) (t .bytes (bytes-drop 6 w));
+    }
 
 -- a record of a log after its header that lets judging go on is a contact
 pub tail-of : (fuel : ℕ) (st : State) (s : List ℕ) (rs : List Record) → 0 < st .headers → st .contacts ≤ maxContacts → judgeIn fuel st s ≡ success rs → Tail st s rs
@@ -89,23 +84,19 @@ unfolding judgeIn followIn
 tail-of zero st s rs h m e = absurd (refused-success e)
 tail-of (suc fuel) st s rs h m e = go (judgeRecord st s) refl (λ after k rest. tail-of fuel after (drop k s) rest)
   where
-    one : (r : Record) (after : State) (rest : List Record) → Continues st s r after → (0 < after .headers → after .contacts ≤ maxContacts → Tail after (drop (sizeOf (kindOf r)) s) rest)
+    one : (r : Record) (rest : List Record) → Continues st s r → (0 < advance st r .headers → advance st r .contacts ≤ maxContacts → Tail (advance st r) (drop (sizeOf (kindOf r)) s) rest)
         → Tail st s (r ∷ rest)
-    one (Header n T) after rest c t = absurd (let z : st .headers ≡ 0 = eqb-true _ _ (c .turn) in omega arith)
-    one (Contact a b first last) after rest c t =
-        let x : after .headers ≡ st .headers = ap (λ (y : State). y .headers) (c .moved) in
-        let y : after .contacts ≡ st .contacts + 1 = ap (λ (y : State). y .contacts) (c .moved) in
-        let z : st .contacts < maxContacts = leb-false _ _ (c .room) in
-        tail-next st s a b first last after rest c (t (omega arith) (omega arith))
-    one (End count) after rest c t = absurd (c .sound)
+    one (Header n T) rest c t = absurd (let z : st .headers ≡ 0 = eqb-true _ _ (c .turn) in omega arith)
+    one (Contact a b first last) rest c t = let z : st .contacts < maxContacts = leb-false _ _ (c .room) in tail-next st s a b first last rest c (t h (omega arith))
+    one (End count) rest c t = absurd (c .sound)
 
     go : (j : Judgement) → judgeRecord st s ≡ j
         → ((after : State) (k : ℕ) (rest : List Record) → 0 < after .headers → after .contacts ≤ maxContacts → judgeIn fuel after (drop k s) ≡ success rest → Tail after (drop k s) rest)
         → Tail st s rs
     go (stop number offset) f ih = absurd (refused-success (sym (step-in fuel st s _ f) ∙ e))
-    go (next r after) f ih =
+    go (next r) f ih =
         let p = fronted r _ rs (sym (step-in fuel st s _ f) ∙ e) in
-        rw (p .same) (one r after (p .rest) (continues st s r after f) (λ x y. ih after (sizeOf (kindOf r)) (p .rest) x y (p .succeeds)))
+        rw (p .same) (one r (p .rest) (continues st s r f) (λ x y. ih (advance st r) (sizeOf (kindOf r)) (p .rest) x y (p .succeeds)))
     go (done r) f ih =
         let q : r ∷ [] ≡ rs = success-same (sym (step-in fuel st s _ f) ∙ e) in
         rw (← q) (tail-done st s r m (ends st s r f))
@@ -123,32 +114,27 @@ pub accepted-of : (at : ℕ) (s : List ℕ) (rs : List Record) → judgeFrom (st
 unfolding judgeFrom follow followIn logRecords encodeAll badgesOf ticksOf
 accepted-of at s rs e = go (judgeRecord (start at) s) refl
   where
-    one : (r : Record) (after : State) (rest : List Record) → Continues (start at) s r after → (0 < after .headers → after .contacts ≤ maxContacts → Tail after (drop (sizeOf (kindOf r)) s) rest)
-        → Accepted s (r ∷ rest)
-    one (Header n T) after rest c t = at-header after (c .moved) t
-      where
-        at-header : (x : State) → x ≡ advance (start at) (Header n T) → (0 < x .headers → x .contacts ≤ maxContacts → Tail x (drop (sizeOf k.Header) s) rest) → Accepted s (Header n T ∷ rest)
-        at-header x e t =
-            let h : x .headers ≡ 0 + 1 = ap (λ (y : State). y .headers) e in
-            let m : x .contacts ≡ 0 = ap (λ (y : State). y .contacts) e in
-            let w = t (omega arith) (omega arith) in
-            let z : x .contacts + length (w .cts) ≡ length (w .cts) = omega arith in
-            record {
-              cts = w .cts;
-              records = ap (λ (y : List Record). Header n T ∷ y) (w .shape ∙ ap (λ (m : ℕ). w .cts ++ End m ∷ []) z);
-              limits = c .sound;
-              few = omega (arith, w .few);
-              valid = λ y i. ap₂ (λ (n T : ℕ). validContact n T y) (ap (λ (z : State). z .badges) (sym e)) (ap (λ (z : State). z .ticks) (sym e)) ∙ w .valid y i;
-              bytes = λ b. whole-encode s _ b (c .whole) ∙ ap (λ (y : List ℕ). encode (Header n T) ++ y) (w .bytes (bytes-drop 4 b));
-            }
-    one (Contact a b first last) after rest c t = absurd (let z : 0 < 0 = ltb-true _ _ (c .turn) in omega arith)
-    one (End count) after rest c t = absurd (c .sound)
+    one : (r : Record) (rest : List Record) → Continues (start at) s r
+        → (0 < advance (start at) r .headers → advance (start at) r .contacts ≤ maxContacts → Tail (advance (start at) r) (drop (sizeOf (kindOf r)) s) rest) → Accepted s (r ∷ rest)
+    one (Header n T) rest c t =
+        let w = t (omega arith) (omega arith) in
+        let z : 0 + length (w .cts) ≡ length (w .cts) = omega arith in
+        record {
+          cts = w .cts;
+          records = ap (λ (y : List Record). Header n T ∷ y) (w .shape ∙ ap (λ (m : ℕ). w .cts ++ End m ∷ []) z);
+          limits = c .sound;
+          few = omega (arith, w .few);
+          valid = w .valid;
+          bytes = λ b. whole-encode s _ b (c .whole) ∙ ap (λ (y : List ℕ). encode (Header n T) ++ y) (w .bytes (bytes-drop 4 b));
+        }
+    one (Contact a b first last) rest c t = absurd (let z : 0 < 0 = ltb-true _ _ (c .turn) in omega arith)
+    one (End count) rest c t = absurd (c .sound)
 
     go : (j : Judgement) → judgeRecord (start at) s ≡ j → Accepted s rs
     go (stop number offset) f = absurd (refused-success (sym (judge-step (start at) s _ f) ∙ e))
-    go (next r after) f =
+    go (next r) f =
         let p = fronted r _ rs (sym (judge-step (start at) s _ f) ∙ e) in
-        rw (p .same) (one r after (p .rest) (continues (start at) s r after f) (λ x y. tail-of _ after _ (p .rest) x y (p .succeeds)))
+        rw (p .same) (one r (p .rest) (continues (start at) s r f) (λ x y. tail-of _ (advance (start at) r) _ (p .rest) x y (p .succeeds)))
     go (done r) f =
         let z = ends (start at) s r f in
         let y : expected (start at) k.End ≡ true = rw (z .counted) at (z .turn) in

@@ -7,10 +7,10 @@ use Rattle.sets.specs.Bools.{_and_, _or_, isnt, all}
 use Rattle.sets.specs.Sets.{bit, setOf}
 use Rattle.sets.specs.Bytes.{littleEndian, fromLittleEndian}
 use Rattle.log.specs.declared.record.Record.{Record}
-use Rattle.log.specs.declared.record.Record.the-variants.{Header, Contact, End}
+use Rattle.log.specs.declared.record.Record.the-variants.{Contact}
 use Rattle.log.specs.Limits.{withinLimits}
 use Rattle.log.specs.Records.{fieldsOf, encode, encodeAll, isMark, markFrom, recordFrom, decodeMarked, decode}
-use Rattle.log.specs.Outcomes.{Outcome, refused, success, refuseIf}
+use Rattle.log.specs.Outcomes.{refused, success, refuseIf}
 use Rattle.log.specs.Judging.{validContact, judgeKind, judgeValues, judgeDecoded, judgeRecord, prepend, judgeIn, judgeFrom, judge}
 use Rattle.log.specs.Meaning.{badgesOf, ticksOf, contactsOf, covers, inContact}
 use Rattle.log.specs.Days.{neighbours, tabulate, tickWords, dayWords, dayOf, isTick, isDay}

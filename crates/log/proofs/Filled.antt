@@ -8,9 +8,8 @@ use native.Mathlib.Omega.{arith}
 use lib.ListN.{length, drop, replicate, length-drop, length-append, length-replicate}
 use lib.Seq.{drop-drop, drop-at}
 use Rattle.sets.specs.Bytes.{Bytes}
-use Rattle.sets.proofs.Bools.{clash}
 use Rattle.log.specs.declared.record.Record.{Record}
-use Rattle.log.specs.declared.record.Record.the-variants.{Header, Contact, End}
+use Rattle.log.specs.declared.record.Record.the-variants.{End}
 use Rattle.log.specs.declared.record.Decoded.{Decoded}
 use Rattle.log.specs.declared.record.Decoded.the-variants as d
 use Rattle.log.proofs.record.Decoded.{the-type}
@@ -26,6 +25,7 @@ use Rattle.log.specs.Filling.{Accepts, Admissible, Fitting, Marks}
 use Rattle.log.specs.Reading.{logRecords}
 use Rattle.log.proofs.Outcomes.{success-same}
 use Rattle.log.proofs.Records.{size-pos, length-encode, Encodable, decode-encode}
+use Rattle.log.proofs.Judged.{by-contact}
 use Rattle.log.proofs.Accepting.{Mem, accepted-of}
 use Rattle.log.proofs.WithinLimits.{limits-of}
 use Rattle.log.proofs.Days.{day-none}
@@ -37,10 +37,7 @@ pub record Proper (n T : ℕ) (r : Record) : Type 0 where
   pub encodable : Encodable r
 
 proper-contact : (n T : ℕ) (c : Record) → validContact n T c ≡ true → Proper n T c
-unfolding validContact
-proper-contact n T (Header m S) e = absurd (clash e refl)
-proper-contact n T (Contact a b first last) e = record { admissible = e; encodable = tt }
-proper-contact n T (End count) e = absurd (clash e refl)
+proper-contact n T = by-contact n T (Proper n T) (λ a b first last e. record { admissible = e; encodable = tt })
 
 proper-log : (n T : ℕ) (cts : List Record) → length cts ≤ maxContacts → ((c : Record) → Mem c cts → validContact n T c ≡ true) → (r : Record) → Mem r (logRecords n T cts) → Proper n T r
 unfolding logRecords

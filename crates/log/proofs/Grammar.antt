@@ -32,7 +32,7 @@ judge-encoded st r s h e f = ap (judgeDecoded st (length (encode r ++ s))) (deco
 
 -- an encoded record that lets judging go on
 judge-next : (st : State) (r : Record) (s : List ℕ) → Encodable r → expected st (kindOf r) ≡ true → oneTooMany st (kindOf r) ≡ false
-    → ((left : ℕ) → judgeValues st left r ≡ next r (advance st r)) → judgeFrom st (encode r ++ s) ≡ prepend r (judgeFrom (advance st r) s)
+    → ((left : ℕ) → judgeValues st left r ≡ next r) → judgeFrom st (encode r ++ s) ≡ prepend r (judgeFrom (advance st r) s)
 unfolding follow
 judge-next st r s h e f g =
     judge-step st (encode r ++ s) _ (judge-encoded st r s h e f ∙ g _)

@@ -1,21 +1,22 @@
 -- Laws of the judgements of one record: valid contacts as facts, and what each test of a judgement comes to, by its answer.
-use mathlib.Core.Path.{_≡_}
+use mathlib.Core.Path.{_≡_, refl}
 use mathlib.Core.Bool.{true, false}
 use mathlib.Core.List.{List}
 use Prim.Native.Nat.{ℕ, _+_, _-_, _≤_, _<_}
 use lib.Dec.{eqb}
 use lib.ListN.{length}
 use borrow.Author.Tests.{ltb-true, lt-ltb, leb-true, le-leb, eqb-true, eq-eqb}
-use Rattle.sets.proofs.Bools.{and-in, and-left, and-right, isnt-in, isnt-of}
+use Rattle.sets.proofs.Bools.{clash, and-in, and-left, and-right, isnt-in, isnt-of}
 use Rattle.log.specs.declared.record.Kind.{Kind}
 use Rattle.log.specs.declared.record.Kind.the-variants as k
+use Rattle.log.specs.declared.record.Record.{Record}
 use Rattle.log.specs.declared.record.Record.{Record}
 use Rattle.log.specs.declared.record.Record.the-variants.{Header, Contact, End}
 use Rattle.log.specs.declared.record.Decoded.the-variants as d
 use Rattle.log.specs.declared.judging.State.{State}
 use Rattle.log.specs.Limits.{withinLimits}
 use Rattle.log.specs.Records.{sizeOf, kindOf, decode}
-use Rattle.log.specs.Judging.{Judgement, stop, next, done, advance, expected, oneTooMany, validContact, judgeKind, judgeValues, judgeDecoded, judgeRecord}
+use Rattle.log.specs.Judging.{Judgement, stop, next, done, expected, oneTooMany, validContact, judgeKind, judgeValues, judgeDecoded, judgeRecord}
 
 -- a contact of two different badges of n, from a first tick to a last one of T
 pub record Valid (n T a b first last : ℕ) : Type 0 where
@@ -45,6 +46,14 @@ valid-in n T a b first last v =
     let r = and-in _ _ (isnt-in _ (λ e. v .different (eqb-true _ _ e))) (lt-ltb _ _ (v .low)) in
     and-in _ _ (and-in _ _ (and-in _ _ r (lt-ltb _ _ (v .high))) (le-leb _ _ (v .rising))) (lt-ltb _ _ (v .inside))
 
+-- a record that is a valid contact is a contact record: what holds of every valid contact holds of it
+pub by-contact : (n T : ℕ) (P : Record → Type 0) → ((a b first last : ℕ) → validContact n T (Contact a b first last) ≡ true → P (Contact a b first last))
+    → (c : Record) → validContact n T c ≡ true → P c
+unfolding validContact
+by-contact n T P f (Header m S) e = absurd (clash e refl)
+by-contact n T P f (Contact a b first last) e = f a b first last e
+by-contact n T P f (End count) e = absurd (clash e refl)
+
 -- a mark that is there: 2 where no record of its kind is expected, 5 where it is one too many, and the rest of the judgements otherwise
 module _ (st : State) (kind : Kind) (further : Judgement) where
   pub judge-kind-unexpected : expected st kind ≡ false → judgeKind st kind further ≡ stop 2 (st .offset)
@@ -65,7 +74,7 @@ module _ (st : State) (left : ℕ) where
   unfolding judgeValues
   header-bad n T e = rw (judgeValues, e)
 
-  pub header-good : (n T : ℕ) → withinLimits n T ≡ true → judgeValues st left (Header n T) ≡ next (Header n T) (advance st (Header n T))
+  pub header-good : (n T : ℕ) → withinLimits n T ≡ true → judgeValues st left (Header n T) ≡ next (Header n T)
   unfolding judgeValues
   header-good n T e = rw (judgeValues, e)
 
@@ -76,7 +85,7 @@ module _ (st : State) (left : ℕ) where
   contact-bad a b first last e = rw (judgeValues, e)
 
   pub contact-good : (a b first last : ℕ) → validContact (st .badges) (st .ticks) (Contact a b first last) ≡ true
-      → judgeValues st left (Contact a b first last) ≡ next (Contact a b first last) (advance st (Contact a b first last))
+      → judgeValues st left (Contact a b first last) ≡ next (Contact a b first last)
   unfolding judgeValues
   contact-good a b first last e = rw (judgeValues, e)
 

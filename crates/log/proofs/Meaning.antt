@@ -7,10 +7,11 @@ use Prim.Native.Nat.{ℕ, _≤_}
 use lib.Dec.{eqb}
 use borrow.Author.Tests.{leb-true, le-leb, eqb-true, eq-eqb}
 use Rattle.sets.specs.Bools.{_and_, _or_}
-use Rattle.sets.proofs.Bools.{clash, and-in, and-left, and-right, or-left, or-right, or-of, or-assoc, isnt-of}
+use Rattle.sets.proofs.Bools.{clash, and-in, and-left, and-right, or-left, or-right, or-of, or-assoc}
 use Rattle.log.specs.declared.record.Record.{Record}
 use Rattle.log.specs.declared.record.Record.the-variants.{Header, Contact, End}
 use Rattle.log.specs.Judging.{validContact}
+use Rattle.log.proofs.Judged.{valid-of, by-contact}
 use Rattle.log.specs.Meaning.{covers, inContact}
 
 -- a contact covers tick t of the pair u, v: it names the pair, in either order, and t is from its first tick to its last
@@ -87,11 +88,12 @@ contact-append (x ∷ xs) ys t u v = ap (λ (b : Bool). covers x t u v or b) (co
 
 -- a valid contact covers no pair of a badge with itself
 pub covers-apart : (n T : ℕ) (r : Record) (t u : ℕ) → validContact n T r ≡ true → covers r t u u ≡ true → ⊥
-unfolding validContact
-covers-apart n T (Header m S) t u g e = clash g refl
-covers-apart n T (Contact a b first last) t u g e = isnt-of _ (and-left _ _ (and-left _ _ (and-left _ _ (and-left _ _ g)))) (eq-eqb a b (go (covers-of e .pair)))
+covers-apart n T r t u =
+    by-contact n T (λ (r : Record). covers r t u u ≡ true → ⊥) (λ a b first last g e. valid-of n T a b first last g .different (go a b (pair a b first last (covers-of e)))) r
   where
-    go : ((a ≡ u) × (b ≡ u)) ⊎ ((a ≡ u) × (b ≡ u)) → a ≡ b
-    go (inl f) = f .0 ∙ sym (f .1)
-    go (inr f) = f .0 ∙ sym (f .1)
-covers-apart n T (End count) t u g e = clash g refl
+    pair : (a b first last : ℕ) → Covers a b first last t u u → ((a ≡ u) × (b ≡ u)) ⊎ ((a ≡ u) × (b ≡ u))
+    pair a b first last c = c .pair
+
+    go : (a b : ℕ) → ((a ≡ u) × (b ≡ u)) ⊎ ((a ≡ u) × (b ≡ u)) → a ≡ b
+    go a b (inl f) = f .0 ∙ sym (f .1)
+    go a b (inr f) = f .0 ∙ sym (f .1)

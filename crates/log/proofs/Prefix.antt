@@ -65,25 +65,11 @@ unfolding judgeRecord
 record-same st m s h = rw (length-take m s, decode-take m s (omega arith)) (decoded-same st m (length s) (decode s) h)
 
 -- a record that lets judging go on takes its bytes off the reach
-reach-next : (st : State) (s : List ℕ) (r : Record) (after : State) → Continues st s r after → reach after + sizeOf (kindOf r) ≤ reach st
+reach-next : (st : State) (s : List ℕ) (r : Record) → Continues st s r → reach (advance st r) + sizeOf (kindOf r) ≤ reach st
 unfolding reach
-reach-next st s (Header n T) after c = go after (c .moved)
-  where
-    go : (x : State) → x ≡ advance st (Header n T) → 4 * (1 - x .headers) + 6 * (maxContacts - x .contacts) + 7 + 4 ≤ 4 * (1 - st .headers) + 6 * (maxContacts - st .contacts) + 7
-    go x e =
-        let h : st .headers ≡ 0 = eqb-true _ _ (c .turn) in
-        let f : x .headers ≡ st .headers + 1 = ap (λ (y : State). y .headers) e in
-        let g : x .contacts ≡ st .contacts = ap (λ (y : State). y .contacts) e in
-        omega arith
-reach-next st s (Contact a b first last) after c = go after (c .moved)
-  where
-    go : (x : State) → x ≡ advance st (Contact a b first last) → 4 * (1 - x .headers) + 6 * (maxContacts - x .contacts) + 7 + 6 ≤ 4 * (1 - st .headers) + 6 * (maxContacts - st .contacts) + 7
-    go x e =
-        let h : st .contacts < maxContacts = leb-false _ _ (c .room) in
-        let f : x .headers ≡ st .headers = ap (λ (y : State). y .headers) e in
-        let g : x .contacts ≡ st .contacts + 1 = ap (λ (y : State). y .contacts) e in
-        omega arith
-reach-next st s (End count) after c = absurd (c .sound)
+reach-next st s (Header n T) c = let h : st .headers ≡ 0 = eqb-true _ _ (c .turn) in omega arith
+reach-next st s (Contact a b first last) c = let h : st .contacts < maxContacts = leb-false _ _ (c .room) in omega arith
+reach-next st s (End count) c = absurd (c .sound)
 
 seven : (st : State) (m : ℕ) → reach st ≤ m → 7 ≤ m
 unfolding reach
@@ -99,12 +85,12 @@ prefix-in (suc fuel) st m s h = go (judgeRecord st s) refl (λ after i. prefix-i
         → judgeIn (suc fuel) st (take m s) ≡ judgeIn (suc fuel) st s
     go j e ih = step-in fuel st (take m s) j (record-same st m s (seven st m h) ∙ e) ∙ on j e ∙ sym (step-in fuel st s j e)
       where
-        on : (j : Judgement) → judgeRecord st s ≡ j → followIn fuel (take m s) j ≡ followIn fuel s j
+        on : (j : Judgement) → judgeRecord st s ≡ j → followIn fuel st (take m s) j ≡ followIn fuel st s j
         on (stop number offset) e = refl
-        on (next r after) e =
+        on (next r) e =
             let i = sizeOf (kindOf r) in
-            let l : reach after ≤ m - i = omega (arith, reach-next st s r after (continues st s r after e)) in
-            ap (prepend r) (ap (judgeIn fuel after) (drop-take i m s) ∙ ih after i l)
+            let l : reach (advance st r) ≤ m - i = omega (arith, reach-next st s r (continues st s r e)) in
+            ap (prepend r) (ap (judgeIn fuel (advance st r)) (drop-take i m s) ∙ ih (advance st r) i l)
         on (done r) e = refl
 
 -- Judging a log is judging its first 48,011 bytes.

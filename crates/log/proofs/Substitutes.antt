@@ -15,7 +15,7 @@ use Rattle.log.specs.Judging.{validContact}
 use Rattle.log.specs.Meaning.{covers}
 use Rattle.log.specs.Days.{neighbours}
 use Rattle.log.specs.Calls.{Values, Read}
-use Rattle.log.specs.Reading.{logRecords, IsLog, Met, Reads}
+use Rattle.log.specs.Reading.{logRecords, IsLog, Met, HasRead, Reads}
 use Rattle.log.proofs.Outcomes.{refused-success, success-same}
 use Rattle.log.proofs.Days.{same-words}
 
@@ -68,7 +68,7 @@ two = 0 ∷ 0 ∷ []
 -- Refusing all logs, with whatever number, offset and words.
 pub refusing-all : (number offset : List ℕ → List ℕ → ℕ) (words : List ℕ → List ℕ → List ℕ) → Reads (λ log ws. record { answer = refused (number log ws) (offset log ws); words = words log ws }) → ⊥
 unfolding two
-refusing-all number offset words p = refused-success (p .answers (bytesOf never) two 2 1 never never-log (omega arith))
+refusing-all number offset words p = refused-success (p (bytesOf never) two 2 1 never never-log (omega arith) .answers)
 
 -- the contact is met in tick 0, by 0 with 1
 met : {cts : List Record} → List·Memᴰ meeting cts → Met cts 0 0 1
@@ -78,7 +78,7 @@ met i = (meeting, i, refl)
 -- Leaving the words untouched, with whatever answer.
 pub words-untouched : (answer : List ℕ → List ℕ → Outcome Values) → Reads (λ log ws. record { answer = answer log ws; words = ws }) → ⊥
 unfolding two neighbours once
-words-untouched answer p = not-in-none 1 (p .marks (bytesOf once) two 2 1 once once-log (omega arith) 0 0 1 (omega arith) (omega arith) .1 (met (List·Memᴰ·head refl)))
+words-untouched answer p = not-in-none 1 (p (bytesOf once) two 2 1 once once-log (omega arith) .marks 0 0 1 (omega arith) (omega arith) .1 (met (List·Memᴰ·head refl)))
 
 -- Inventing the number of contact records: one that is the same for all logs, and one that the words alone decide.
 abbrev inventing : (List ℕ → ℕ) → (badges ticks : List ℕ → List ℕ → ℕ) → (List ℕ → List ℕ → List ℕ) → List ℕ → List ℕ → Read
@@ -91,20 +91,25 @@ counted {v} {w} e = ap (λ (x : Values). x .contacts) (success-same e)
 pub count-from-words : (count : List ℕ → ℕ) (badges ticks : List ℕ → List ℕ → ℕ) (words : List ℕ → List ℕ → List ℕ) → Reads (inventing count badges ticks words) → ⊥
 unfolding two once twice
 count-from-words count badges ticks words p =
-    let a : count (words (bytesOf once) two) ≡ 1 = counted (p .answers (bytesOf once) two 2 1 once once-log (omega arith)) in
-    let b : count (words (bytesOf twice) two) ≡ 2 = counted (p .answers (bytesOf twice) two 2 1 twice twice-log (omega arith)) in
+    let a : count (words (bytesOf once) two) ≡ 1 = counted (first .answers) in
+    let b : count (words (bytesOf twice) two) ≡ 2 = counted (second .answers) in
     let c : count (words (bytesOf once) two) ≡ count (words (bytesOf twice) two) = ap count same in
     omega arith
   where
+    first : HasRead 2 1 once two (inventing count badges ticks words (bytesOf once) two)
+    first = p (bytesOf once) two 2 1 once once-log (omega arith)
+
+    second : HasRead 2 1 twice two (inventing count badges ticks words (bytesOf twice) two)
+    second = p (bytesOf twice) two 2 1 twice twice-log (omega arith)
+
+    -- the contact is met where it is given once exactly when it is met where it is given twice
     row : (t u : ℕ) → t < 1 → u < 2 → neighbours 2 (words (bytesOf once) two) t u ≡ neighbours 2 (words (bytesOf twice) two) t u
     row t u h k = ext _ _
-        (λ v i. let m = p .marks (bytesOf once) two 2 1 once once-log (omega arith) t u v h k .0 i in
-        p .marks (bytesOf twice) two 2 1 twice twice-log (omega arith) t u v h k .1 (m .0, List·Memᴰ·tail (m .1), m .2))
-        (λ v i. let m = p .marks (bytesOf twice) two 2 1 twice twice-log (omega arith) t u v h k .0 i in
-        p .marks (bytesOf once) two 2 1 once once-log (omega arith) t u v h k .1 (m .0, List·Memᴰ·head (in-twice (m .0) (m .1)), m .2))
+        (λ v i. let m = first .marks t u v h k .0 i in second .marks t u v h k .1 (m .0, List·Memᴰ·tail (m .1), m .2))
+        (λ v i. let m = second .marks t u v h k .0 i in first .marks t u v h k .1 (m .0, List·Memᴰ·head (in-twice (m .0) (m .1)), m .2))
 
     same : words (bytesOf once) two ≡ words (bytesOf twice) two
-    same = same-words 2 1 _ _ (p .long (bytesOf once) two 2 1 once once-log (omega arith)) (p .long (bytesOf twice) two 2 1 twice twice-log (omega arith)) row
+    same = same-words 2 1 _ _ (first .long) (second .long) row
 
 pub count-fixed : (count : ℕ) (badges ticks : List ℕ → List ℕ → ℕ) (words : List ℕ → List ℕ → List ℕ) → Reads (inventing (λ ws. count) badges ticks words) → ⊥
 count-fixed count badges ticks words p = count-from-words (λ ws. count) badges ticks words p

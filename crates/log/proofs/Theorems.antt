@@ -2,7 +2,7 @@
 use mathlib.Core.Path.{_≡_, refl, sym, ap, _∙_, subst}
 use mathlib.Core.Bool.{true}
 use mathlib.Core.List.{List, [], _∷_, _++_, List·Memᴰ·head, List·Memᴰ·tail, List·Memᴰ·append-cases, Memᴰ·append-left, List·Memᴰ·eq-of-singleton}
-use mathlib.Core.Logic.{_⊎_, inl, inr, _↔_}
+use mathlib.Core.Logic.{_⊎_, inl, inr, _↔_, ⊎-elim}
 use Prim.Native.Nat.{ℕ, _+_, _*_, _≤_, _<_}
 use native.Mathlib.Nat.{le-of-eq}
 use native.Mathlib.Omega.{arith}
@@ -21,9 +21,9 @@ use Rattle.log.specs.Judging.{start, validContact, judgeFrom, judge}
 use Rattle.log.specs.Meaning.{badgesOf, ticksOf, covers, inContact}
 use Rattle.log.specs.Days.{neighbours, dayWords, dayOf, IsDay}
 use Rattle.log.specs.Calls.{valuesOf, Read, readOf, checkOf}
-use Rattle.log.specs.Reading.{logRecords, IsLog, Met, Reads}
+use Rattle.log.specs.Reading.{logRecords, IsLog, Met, HasRead, Reads}
 use Rattle.log.proofs.Records.{length-encode, contacts-length, encode-append}
-use Rattle.log.proofs.Judged.{Valid, valid-of}
+use Rattle.log.proofs.Judged.{Valid, valid-of, by-contact}
 use Rattle.log.proofs.Accepting.{Mem, accepted-of}
 use Rattle.log.proofs.Grammar.{grammar-accepted, one-more-refused}
 use Rattle.log.proofs.Prefix.{judge-prefix}
@@ -47,10 +47,7 @@ accepted-log log rs b e =
 
 -- a valid contact is a contact record
 contact-kind : (n T : ℕ) (c : Record) → validContact n T c ≡ true → kindOf c ≡ k.Contact
-unfolding validContact
-contact-kind n T (Header m S) e = absurd (clash e refl)
-contact-kind n T (Contact a b first last) e = refl
-contact-kind n T (End count) e = absurd (clash e refl)
+contact-kind n T = by-contact n T (λ (c : Record). kindOf c ≡ k.Contact) (λ a b first last e. refl)
 
 -- A log has 10 bytes and 6 for each contact record.
 pub log-length : (log : List ℕ) (n T : ℕ) (cts : List Record) → IsLog log n T cts → length log ≡ 10 + 6 * length cts
@@ -95,17 +92,10 @@ module _ (n T : ℕ) (cts : List Record) where
 
 -- a valid contact record covers badges below n alone
 covered-lt : (n T : ℕ) (c : Record) (t u v : ℕ) → validContact n T c ≡ true → covers c t u v ≡ true → v < n
-unfolding validContact
-covered-lt n T (Header m S) t u v e f = absurd (clash e refl)
-covered-lt n T (Contact a b first last) t u v e f = go (valid-of n T a b first last e) (pair (covers-of f))
+covered-lt n T c t u v e f = by-contact n T (λ (c : Record). covers c t u v ≡ true → v < n) (λ a b first last e f. go a b first last (valid-of n T a b first last e) (covers-of f)) c e f
   where
-    pair : Covers a b first last t u v → ((a ≡ u) × (b ≡ v)) ⊎ ((a ≡ v) × (b ≡ u))
-    pair c = c .pair
-
-    go : Valid n T a b first last → ((a ≡ u) × (b ≡ v)) ⊎ ((a ≡ v) × (b ≡ u)) → v < n
-    go w (inl p) = omega (arith, w .high, p .1)
-    go w (inr p) = omega (arith, w .low, p .0)
-covered-lt n T (End count) t u v e f = absurd (clash e refl)
+    go : (a b first last : ℕ) → Valid n T a b first last → Covers a b first last t u v → v < n
+    go a b first last w c = ⊎-elim (λ p. omega (arith, w .high, p .1)) (λ p. omega (arith, w .low, p .0)) (c .pair)
 
 -- What each bit of an accepted log's words says, whatever words follow them.
 module _ (n T : ℕ) (cts : List Record) (valid : (c : Record) → Mem c cts → validContact n T c ≡ true) (rest : List ℕ) where
@@ -146,21 +136,19 @@ pub read-succeeds : (log ws : List ℕ) (rs : List Record) → judge log ≡ suc
 read-succeeds log ws rs e h = ap (λ (x : Read). x .answer) (read-success log ws rs e h)
 
 -- Reading keeps its promise.
-module _ (log ws : List ℕ) (n T : ℕ) (cts : List Record) (l : IsLog log n T cts) (h : wordsFor n T ≤ length ws) where
-  read-log : readOf log ws ≡ record { answer = success (valuesOf (logRecords n T cts)); words = dayWords n T (inContact (logRecords n T cts)) ++ drop (wordsFor n T) ws }
-  unfolding dayOf logRecords badgesOf ticksOf
-  read-log = read-success log ws (logRecords n T cts) (log-accepted log n T cts l) h
-
-all-there : (n T : ℕ) (cts : List Record) (ws : List ℕ) → wordsFor n T ≤ length ws → length (dayWords n T (inContact (logRecords n T cts)) ++ drop (wordsFor n T) ws) ≡ length ws
-all-there n T cts ws h = rw (length-append, day-length, length-drop) (omega arith)
+read-log : (log ws : List ℕ) (n T : ℕ) (cts : List Record) → IsLog log n T cts → wordsFor n T ≤ length ws
+    → readOf log ws ≡ record { answer = success (valuesOf (logRecords n T cts)); words = dayWords n T (inContact (logRecords n T cts)) ++ drop (wordsFor n T) ws }
+unfolding dayOf logRecords badgesOf ticksOf
+read-log log ws n T cts l h = read-success log ws (logRecords n T cts) (log-accepted log n T cts l) h
 
 pub reads : Reads readOf
-reads = record {
-  answers = λ log ws n T cts l h. ap (λ (x : Read). x .answer) (read-log log ws n T cts l h) ∙ ap success (values-log n T cts (l .valid));
-  marks = λ log ws n T cts l h t u v i j.
-      subst (λ (x : Read). In (neighbours n (x .words) t u) v ↔ Met cts t u v) (sym (read-log log ws n T cts l h)) (log-bits n T cts (l .valid) (drop (wordsFor n T) ws) t u v i j);
-  keeps = λ log ws n T cts l h.
-      ap (λ (x : Read). drop (wordsFor n T) (x .words)) (read-log log ws n T cts l h)
-      ∙ drop-at (dayWords n T (inContact (logRecords n T cts))) (drop (wordsFor n T) ws) (wordsFor n T) (day-length n T (inContact (logRecords n T cts)));
-  long = λ log ws n T cts l h. ap (λ (x : Read). length (x .words)) (read-log log ws n T cts l h) ∙ all-there n T cts ws h;
-}
+reads log ws n T cts l h =
+    let day = dayWords n T (inContact (logRecords n T cts)) in
+    let rest = drop (wordsFor n T) ws in
+    let long = day-length n T (inContact (logRecords n T cts)) in
+    subst (HasRead n T cts ws) (sym (read-log log ws n T cts l h)) (record {
+      answers = ap success (values-log n T cts (l .valid));
+      marks = log-bits n T cts (l .valid) rest;
+      keeps = drop-at day rest (wordsFor n T) long;
+      long = omega (arith, length-append day rest, long, length-drop (wordsFor n T) ws);
+    })

@@ -1,5 +1,5 @@
 -- The program's judging loop: the verdict on a log from any state that judging comes to.
-use mathlib.Core.Path.{_≡_, refl, sym, ap, ap₂, _∙_}
+use mathlib.Core.Path.{_≡_, refl, sym, ap, _∙_}
 use mathlib.Core.Bool.{true}
 use mathlib.Core.List.{List, [], _∷_, _++_, List·Memᴰ·head, List·Memᴰ·tail}
 use Prim.Native.Nat.{ℕ, suc, _+_, _-_, _^_, _≤_, _<_}
@@ -7,7 +7,6 @@ use native.Mathlib.Omega.{arith}
 use lib.ListN.{length, take, drop, length-drop}
 use lib.Seq.{drop-drop, take-all}
 use borrow.Author.Tests.{eqb-true, leb-false}
-use Rattle.sets.proofs.Bools.{clash}
 use Rattle.log.specs.declared.record.Record.{Record}
 use Rattle.log.specs.declared.record.Record.the-variants.{Header, Contact, End}
 use Rattle.log.specs.declared.judging.State.{State}
@@ -20,6 +19,7 @@ use Rattle.log.specs.Meaning.{badgesOf, ticksOf, contactsOf}
 use Rattle.log.specs.Calls.{Values, valuesOf, verdictOf}
 use Rattle.log.specs.Reading.{logRecords}
 use Rattle.log.proofs.Records.{whole-size}
+use Rattle.log.proofs.Judged.{by-contact}
 use Rattle.log.proofs.Stepping.{Continues, continues, ends, follow, judge-step}
 use Rattle.log.proofs.Accepting.{Mem, accepted-of}
 
@@ -45,23 +45,17 @@ after-contacts : (st : State) (n T : ℕ) (cts : List Record) (count : ℕ) → 
     → valuesAfter st (cts ++ End count ∷ []) ≡ values (st .badges) (st .ticks) (st .contacts + length cts)
 unfolding valuesAfter validContact
 after-contacts st n T [] count v = ap (values (st .badges) (st .ticks)) (omega arith)
-after-contacts st n T (c ∷ cts) count v = one c (v c (List·Memᴰ·head refl)) (λ s. after-contacts s n T cts count (λ x i. v x (List·Memᴰ·tail i)))
-  where
-    one : (c : Record) → validContact n T c ≡ true → ((s : State) → valuesAfter s (cts ++ End count ∷ []) ≡ values (s .badges) (s .ticks) (s .contacts + length cts))
-        → valuesAfter (advance st c) (cts ++ End count ∷ []) ≡ values (st .badges) (st .ticks) (st .contacts + suc (length cts))
-    one (Header m S) e ih = absurd (clash e refl)
-    one (Contact a b first last) e ih = ih (advance st (Contact a b first last)) ∙ ap (values (st .badges) (st .ticks)) (omega arith)
-    one (End m) e ih = absurd (clash e refl)
+after-contacts st n T (c ∷ cts) count v =
+    by-contact n T (λ (c : Record). valuesAfter (advance st c) (cts ++ End count ∷ []) ≡ values (st .badges) (st .ticks) (st .contacts + suc (length cts)))
+    (λ a b first last e. after-contacts (advance st (Contact a b first last)) n T cts count (λ x i. v x (List·Memᴰ·tail i)) ∙ ap (values (st .badges) (st .ticks)) (omega arith))
+    c (v c (List·Memᴰ·head refl))
 
 contacts-counted : (n T : ℕ) (cts : List Record) (count : ℕ) → ((c : Record) → Mem c cts → validContact n T c ≡ true) → contactsOf (cts ++ End count ∷ []) ≡ length cts
 unfolding contactsOf validContact
 contacts-counted n T [] count v = refl
-contacts-counted n T (c ∷ cts) count v = one c (v c (List·Memᴰ·head refl)) (contacts-counted n T cts count (λ x i. v x (List·Memᴰ·tail i)))
-  where
-    one : (c : Record) → validContact n T c ≡ true → contactsOf (cts ++ End count ∷ []) ≡ length cts → contactsOf (c ∷ (cts ++ End count ∷ [])) ≡ suc (length cts)
-    one (Header m S) e ih = absurd (clash e refl)
-    one (Contact a b first last) e ih = ap suc ih
-    one (End m) e ih = absurd (clash e refl)
+contacts-counted n T (c ∷ cts) count v =
+    by-contact n T (λ (c : Record). contactsOf (c ∷ (cts ++ End count ∷ [])) ≡ suc (length cts))
+    (λ a b first last e. ap suc (contacts-counted n T cts count (λ x i. v x (List·Memᴰ·tail i)))) c (v c (List·Memᴰ·head refl))
 
 pub values-log : (n T : ℕ) (cts : List Record) → ((c : Record) → Mem c cts → validContact n T c ≡ true) → valuesOf (logRecords n T cts) ≡ values n T (length cts)
 unfolding valuesOf logRecords badgesOf ticksOf contactsOf
@@ -95,45 +89,46 @@ reached-start log = record { inside = omega arith; one = omega arith; few = omeg
 abbrev rest : List ℕ → State → List ℕ
 rest log st = drop (st .offset) log
 
-pub reached-next : (log : List ℕ) (st : State) (r : Record) (after : State) → Reached log st → judgeRecord st (rest log st) ≡ next r after → Reached log after
+pub reached-next : (log : List ℕ) (st : State) (r : Record) → Reached log st → judgeRecord st (rest log st) ≡ next r → Reached log (advance st r)
 unfolding follow
-reached-next log st r after g e =
-    let c = continues st (rest log st) r after e in
-    let o : after .offset ≡ st .offset + sizeOf (kindOf r) = ap (λ (x : State). x .offset) (c .moved) ∙ grows r in
+reached-next log st r g e =
+    let c = continues st (rest log st) r e in
     record {
-      inside = omega (arith, whole-size (rest log st) r (c .whole), length-drop (st .offset) log, g .inside);
+      inside = omega (arith, offset r, whole-size (rest log st) r (c .whole), length-drop (st .offset) log, g .inside);
       one = headers r c;
       few = contacts r c;
       same = g .same ∙ ap (summary st) (judge-step st (rest log st) _ e) ∙ summary-prepend st r _
-          ∙ ap₂ (λ (x : State) (s : List ℕ). summary x (judgeFrom after s)) (sym (c .moved)) (drop-drop (sizeOf (kindOf r)) (st .offset) log ∙ ap (λ (i : ℕ). drop i log) (sym o));
+          ∙ ap (λ (s : List ℕ). summary (advance st r) (judgeFrom (advance st r) s)) (drop-drop (sizeOf (kindOf r)) (st .offset) log ∙ ap (λ (i : ℕ). drop i log) (sym (offset r)));
     }
   where
-    grows : (r : Record) → advance st r .offset ≡ st .offset + sizeOf (kindOf r)
-    grows (Header n T) = refl
-    grows (Contact a b first last) = refl
-    grows (End count) = refl
+    offset : (r : Record) → advance st r .offset ≡ st .offset + sizeOf (kindOf r)
+    offset (Header n T) = refl
+    offset (Contact a b first last) = refl
+    offset (End count) = refl
 
-    headers : (r : Record) → Continues st (rest log st) r after → after .headers ≤ 1
-    headers (Header n T) c = let h : st .headers ≡ 0 = eqb-true _ _ (c .turn) in let m : after .headers ≡ st .headers + 1 = ap (λ (x : State). x .headers) (c .moved) in omega arith
-    headers (Contact a b first last) c = let m : after .headers ≡ st .headers = ap (λ (x : State). x .headers) (c .moved) in omega (arith, g .one)
-    headers (End count) c = absurd (c .sound)
+    headers : (r : Record) → Continues st (rest log st) r → advance st r .headers ≤ 1
+    headers (Header n T) c = let h : st .headers ≡ 0 = eqb-true _ _ (c .turn) in omega arith
+    headers (Contact a b first last) c = g .one
+    headers (End count) c = g .one
 
-    contacts : (r : Record) → Continues st (rest log st) r after → after .contacts ≤ maxContacts
-    contacts (Header n T) c = let m : after .contacts ≡ st .contacts = ap (λ (x : State). x .contacts) (c .moved) in omega (arith, g .few)
-    contacts (Contact a b first last) c =
-        let h : st .contacts < maxContacts = leb-false _ _ (c .room) in
-        let m : after .contacts ≡ st .contacts + 1 = ap (λ (x : State). x .contacts) (c .moved) in
-        omega arith
-    contacts (End count) c = absurd (c .sound)
+    contacts : (r : Record) → Continues st (rest log st) r → advance st r .contacts ≤ maxContacts
+    contacts (Header n T) c = g .few
+    contacts (Contact a b first last) c = let h : st .contacts < maxContacts = leb-false _ _ (c .room) in omega arith
+    contacts (End count) c = g .few
 
 -- a record on the way takes bytes
-pub offset-grows : (log : List ℕ) (st : State) (r : Record) (after : State) → judgeRecord st (rest log st) ≡ next r after → st .offset < after .offset
-offset-grows log st r after e = go r (continues st (rest log st) r after e)
-  where
-    go : (r : Record) → Continues st (rest log st) r after → st .offset < after .offset
-    go (Header n T) c = let m : after .offset ≡ st .offset + 4 = ap (λ (x : State). x .offset) (c .moved) in omega arith
-    go (Contact a b first last) c = let m : after .offset ≡ st .offset + 6 = ap (λ (x : State). x .offset) (c .moved) in omega arith
-    go (End count) c = absurd (c .sound)
+pub offset-grows : (st : State) (r : Record) → st .offset < advance st r .offset
+offset-grows st (Header n T) = omega arith
+offset-grows st (Contact a b first last) = omega arith
+offset-grows st (End count) = omega arith
+
+-- a state that was reached can take the record that stands there
+pub advance-bounded : (log : List ℕ) (st : State) (r : Record) → Reached log st → length log < 2 ^ 64 → judgeRecord st (rest log st) ≡ next r → Bounded st (sizeOf (kindOf r))
+advance-bounded log st r g h e = record {
+  room = omega (arith, whole-size (rest log st) r (continues st (rest log st) r e .whole), length-drop (st .offset) log, g .inside);
+  one = g .one;
+  few = g .few;
+}
 
 -- the verdict at a refusal, and at the end of the log
 pub reached-stop : (log : List ℕ) (st : State) (number offset : ℕ) → Reached log st → judgeRecord st (rest log st) ≡ stop number offset → verdictOf (judge log) ≡ refused number offset

@@ -28,10 +28,10 @@ advance st (Header n T) = record { offset = st .offset + sizeOf k.Header; header
 advance st (Contact a b first last) = record { offset = st .offset + sizeOf k.Contact; headers = st .headers; contacts = st .contacts + 1; badges = st .badges; ticks = st .ticks }
 advance st (End count) = record { offset = st .offset + sizeOf k.End; headers = st .headers; contacts = st .contacts; badges = st .badges; ticks = st .ticks }
 
--- what judging one record comes to
+-- what judging one record comes to: a refusal, a record to go on after, or the end of the log
 pub data Judgement : Type 0 where
   stop : (number offset : ℕ) → Judgement
-  next : Record → State → Judgement
+  next : Record → Judgement
   done : Record → Judgement
 
 -- 2: "the mark is not BH for the first record, or not CT or ED later"
@@ -63,11 +63,11 @@ judgeKind st kind further = elim (expected st kind) [
 unfoldable pub judgeValues : State → ℕ → Record → Judgement
 judgeValues st left (Header n T) = elim (withinLimits n T) [
   | false ↦ stop 3 (st .offset)
-  | true ↦ next (Header n T) (advance st (Header n T))
+  | true ↦ next (Header n T)
 ]
 judgeValues st left (Contact a b first last) = elim (validContact (st .badges) (st .ticks) (Contact a b first last)) [
   | false ↦ stop 4 (st .offset)
-  | true ↦ next (Contact a b first last) (advance st (Contact a b first last))
+  | true ↦ next (Contact a b first last)
 ]
 judgeValues st left (End count) = elim (eqb count (st .contacts)) [
   | false ↦ stop 6 (st .offset)
@@ -94,7 +94,7 @@ unfoldable pub judgeIn : ℕ → State → List ℕ → Outcome (List Record)
 judgeIn zero st s = refused 1 (st .offset)
 judgeIn (suc fuel) st s = elim (judgeRecord st s) [
   | stop number offset ↦ refused number offset
-  | next r after ↦ prepend r (judgeIn fuel after (drop (sizeOf (kindOf r)) s))
+  | next r ↦ prepend r (judgeIn fuel (advance st r) (drop (sizeOf (kindOf r)) s))
   | done r ↦ success (r ∷ [])
 ]
 

@@ -31,14 +31,14 @@ pub record IsLog (log : List ℕ) (n T : ℕ) (cts : List Record) : Type 0 where
 abbrev pub Met : List Record → ℕ → ℕ → ℕ → Type 0
 Met cts t u v = (c : Record) × List·Memᴰ c cts × (covers c t u v ≡ true)
 
--- Of every log, lent n×T words or more: the call succeeds with the log's n, T and number of contact records; bit v of word t×n+u
--- is set exactly when u and v are in contact in tick t; and the words after the first n×T are as they were, and as many.
-pub record Reads (call : List ℕ → List ℕ → Read) : Type 0 where
-  pub answers : (log ws : List ℕ) (n T : ℕ) (cts : List Record) → IsLog log n T cts → wordsFor n T ≤ length ws
-      → call log ws .answer ≡ success (record { badges = n; ticks = T; contacts = length cts })
-  pub marks : (log ws : List ℕ) (n T : ℕ) (cts : List Record) → IsLog log n T cts → wordsFor n T ≤ length ws
-      → (t u v : ℕ) → t < T → u < n → In (neighbours n (call log ws .words) t u) v ↔ Met cts t u v
-  pub keeps : (log ws : List ℕ) (n T : ℕ) (cts : List Record) → IsLog log n T cts → wordsFor n T ≤ length ws
-      → drop (wordsFor n T) (call log ws .words) ≡ drop (wordsFor n T) ws
-  pub long : (log ws : List ℕ) (n T : ℕ) (cts : List Record) → IsLog log n T cts → wordsFor n T ≤ length ws
-      → length (call log ws .words) ≡ length ws
+-- What a call leaves that has read the log of these contacts into words that were lent: it answers the log's n, T and number of contact
+-- records; bit v of word t×n+u is set exactly when u and v are in contact in tick t; the words after the first n×T are as they were.
+pub record HasRead (n T : ℕ) (cts : List Record) (lent : List ℕ) (left : Read) : Type 0 where
+  pub answers : left .answer ≡ success (record { badges = n; ticks = T; contacts = length cts })
+  pub marks : (t u v : ℕ) → t < T → u < n → In (neighbours n (left .words) t u) v ↔ Met cts t u v
+  pub keeps : drop (wordsFor n T) (left .words) ≡ drop (wordsFor n T) lent
+  pub long : length (left .words) ≡ length lent
+
+-- a call that reads every log, lent n×T words or more
+abbrev pub Reads : (List ℕ → List ℕ → Read) → Type 0
+Reads call = (log lent : List ℕ) (n T : ℕ) (cts : List Record) → IsLog log n T cts → wordsFor n T ≤ length lent → HasRead n T cts lent (call log lent)

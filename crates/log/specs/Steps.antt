@@ -16,7 +16,7 @@ pub record Bounded (st : State) (left : ℕ) : Type 0 where
   pub few : st .contacts ≤ maxContacts
 
 abbrev pub stepOf : Step → Judgement
-stepOf (s.Next r st) = next r st
+stepOf (s.Next r) = next r
 stepOf (s.Done r) = done r
 stepOf (s.Refused x) = stop (numberOf x) (offsetOf x)
 

@@ -34,9 +34,9 @@ pub enum Standing {
     Refused(Refusal),
 }
 
-// What judging one record comes to: the record and the state after it, the end of the log, or a refusal.
+// What judging one record comes to: a record to go on after, the end of the log, or a refusal.
 pub enum Step {
-    Next(Record, State),
+    Next(Record),
     Done(Record),
     Refused(Refusal),
 }
@@ -169,13 +169,13 @@ fn judge_values(state: State, left: usize, record: Record) -> Step
             if !within_limits(badges as usize, ticks as usize) {
                 return Step::Refused(Refusal::HeaderOutOfLimits { at });
             }
-            Step::Next(record, advance(state, record))
+            Step::Next(record)
         }
         Record::Contact { a, b, first, last } => {
             if !valid_contact(state, a, b, first, last) {
                 return Step::Refused(Refusal::InvalidContact { at });
             }
-            Step::Next(record, advance(state, record))
+            Step::Next(record)
         }
         Record::End { count } => {
             if count as usize != state.contacts {
@@ -219,7 +219,8 @@ pub(crate) fn judge(log: &[u8]) -> Verdict
     loop {
         let at = state.offset;
         match judge_record(state, &log[at..]) {
-            Step::Next(_, after) => {
+            Step::Next(record) => {
+                let after = advance(state, record);
                 state = after;
             }
             Step::Done(_) => {

@@ -4,9 +4,10 @@ use mathlib.Core.Path.{_≡_, sym, ap, _∙_}
 use Prim.Native.Nat.{_-_}
 use native.Mathlib.Omega.{arith}
 use lib.ListN.{length, drop}
-use Rattle.log.specs.Judging.{next, judgeRecord}
+use Rattle.log.specs.declared.judging.State.{State}
+use Rattle.log.specs.Judging.{advance, next, judgeRecord}
 use Rattle.log.specs.Steps.{stepOf}
-use Rattle.log.proofs.Verdicts.{Reached, bounded, reached-start, reached-next, reached-stop, reached-done, offset-grows, rest-is}
+use Rattle.log.proofs.Verdicts.{Reached, bounded, reached-start, reached-next, advance-bounded, reached-stop, reached-done, offset-grows, rest-is}
 use Rattle.log.proofs.judging.judge.Statement.{statement}
 use Rattle.log.proofs.judging.judge.Tie as tie
 
@@ -42,17 +43,28 @@ told c =
     c .judge-record .ensures ∙ ap (judgeRecord st) (rest-is log (st .offset))
 
 -- the judgement of a record that lets judging go on
-goes : (c : tie.After-after Inv-loop μ-loop) → judgeRecord (c .before .before .before .before .loop .state) (drop (c .before .before .before .before .loop .state .offset) (c .before .before .before .before .before .before .before .args .log .now)) ≡ next (c .after .given .0 .0) (c .after .given .0 .1 .0)
-goes c = sym (told (c .before .before)) ∙ ap stepOf (c .after .given .1)
+goes : (c : tie.After-record Inv-loop μ-loop)
+    → judgeRecord (c .before .before .before .before .loop .state) (drop (c .before .before .before .before .loop .state .offset) (c .before .before .before .before .before .before .before .args .log .now))
+    ≡ next (c .«record» .given .0 .0)
+goes c = sym (told (c .before .before)) ∙ ap stepOf (c .«record» .given .1)
 
-enum-known-after : tie.Need-enum-known-after Inv-loop μ-loop
-enum-known-after c = search needs
+enum-known-record : tie.Need-enum-known-record Inv-loop μ-loop
+enum-known-record c = search needs
+
+advance-requires : tie.Need-advance-requires Inv-loop μ-loop
+advance-requires c κs = advance-bounded _ _ _ (c .before .before .before .before .before .loop .inv) (c .before .before .before .before .before .before .before .before .good .0 .0) (goes (c .before))
+
+-- the state after it is reached
+onward : (c : tie.After-advance Inv-loop μ-loop) → Reached (c .before .before .before .before .before .before .before .before .before .args .log .now) (c .advance .result)
+onward c = rw (c .advance .ensures) (reached-next _ _ _ (c .before .before .before .before .before .before .loop .inv) (goes (c .before .before)))
 
 loop-less : tie.Need-loop-less Inv-loop μ-loop
-loop-less c = omega (arith, offset-grows _ _ _ _ (goes (c .before)), (reached-next _ _ _ _ (c .before .before .before .before .before .loop .inv) (goes (c .before))) .inside)
+loop-less c =
+    let e : c .advance .result .offset ≡ advance (c .before .before .before .before .before .before .loop .state) (c .before .before .«record» .given .0 .0) .offset = ap (λ (x : State). x .offset) (c .advance .ensures) in
+    omega (arith, offset-grows (c .before .before .before .before .before .before .loop .state) (c .before .before .«record» .given .0 .0), onward c .inside)
 
 loop-again : tie.Need-loop-again Inv-loop μ-loop
-loop-again c = reached-next _ _ _ _ (c .before .before .before .before .before .loop .inv) (goes (c .before))
+loop-again c = onward c
 
 enum-told : tie.Need-enum-told Inv-loop μ-loop
 enum-told c = search needs
@@ -78,7 +90,8 @@ judge-spec =
     part-judge-record-start
     part-judge-record-end
     judge-record-requires
-    enum-known-after
+    enum-known-record
+    advance-requires
     loop-less
     loop-again
     enum-told

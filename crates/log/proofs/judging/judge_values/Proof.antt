@@ -28,11 +28,6 @@ within-limits-requires c κs = search needs
 returns : tie.Need-returns
 returns c = rw (c .before .before .before .«record» .given .1) (sym (header-bad _ _ _ _ (sym (c .before .within-limits .ensures) ∙ not-true _ (c .if1 .taken))))
 
-advance-requires : tie.Need-advance-requires
-advance-requires c κs =
-    let p = c .before .before .before .before .before .pre in
-    record { room = omega (arith, same-size (c .before .before .before .«record» .given .1)); one = p .one; few = p .few }
-
 enum-known-record-2 : tie.Need-enum-known-record-2
 enum-known-record-2 c = search needs
 
@@ -41,11 +36,6 @@ valid-contact-requires c κs = search needs
 
 returns-2 : tie.Need-returns-2
 returns-2 c = rw (c .before .before .before .record2 .given .1) (sym (contact-bad _ _ _ _ _ _ (sym (c .before .valid-contact .ensures) ∙ not-true _ (c .if2 .taken))))
-
-advance-requires-2 : tie.Need-advance-requires-2
-advance-requires-2 c κs =
-    let p = c .before .before .before .before .before .pre in
-    record { room = omega (arith, same-size (c .before .before .before .record2 .given .1)); one = p .one; few = p .few }
 
 enum-known-record-3 : tie.Need-enum-known-record-3
 enum-known-record-3 c = search needs
@@ -59,17 +49,17 @@ returns-3 c = rw (c .before .before .before .record3 .given .1) (sym (end-wrong 
 size-of-requires : tie.Need-size-of-requires
 size-of-requires c κs = search needs
 
-add-t28 : tie.Need-add-t28
-add-t28 c = omega (arith, same-size (c .before .before .before .before .before .record3 .given .1))
+add-t26 : tie.Need-add-t26
+add-t26 c = omega (arith, same-size (c .before .before .before .before .before .record3 .given .1))
 
 returns-4 : tie.Need-returns-4
 returns-4 c = rw (c .size-of .ensures, c .before .before .before .before .before .record3 .given .1) (sym (end-trailing _ _ _ (eq-eqb _ _ (c .before .before .if3 .left)) (ne-eqb _ _ (c .before .if4 .taken))))
 
 returns-5 : tie.Need-returns-5
-returns-5 c = rw (c .advance .ensures, c .before .before .before .before .«record» .given .1) (sym (header-good _ _ _ _ (sym (c .before .before .within-limits .ensures) ∙ not-false _ (c .before .if1 .left))))
+returns-5 c = rw (c .before .before .before .«record» .given .1) (sym (header-good _ _ _ _ (sym (c .before .within-limits .ensures) ∙ not-false _ (c .if1 .left))))
 
 returns-6 : tie.Need-returns-6
-returns-6 c = rw (c .advance2 .ensures, c .before .before .before .before .record2 .given .1) (sym (contact-good _ _ _ _ _ _ (sym (c .before .before .valid-contact .ensures) ∙ not-false _ (c .before .if2 .left))))
+returns-6 c = rw (c .before .before .before .record2 .given .1) (sym (contact-good _ _ _ _ _ _ (sym (c .before .valid-contact .ensures) ∙ not-false _ (c .if2 .left))))
 
 returns-7 : tie.Need-returns-7
 returns-7 c = rw (c .before .before .before .before .record3 .given .1) (sym (end-done _ _ _ (eq-eqb _ _ (c .before .if3 .left)) (eq-eqb _ _ (c .if4 .left))))
@@ -83,16 +73,14 @@ judge-values-spec =
     cast-within-limits-2
     within-limits-requires
     returns
-    advance-requires
     enum-known-record-2
     valid-contact-requires
     returns-2
-    advance-requires-2
     enum-known-record-3
     cast-if3
     returns-3
     size-of-requires
-    add-t28
+    add-t26
     returns-4
     returns-5
     returns-6
