@@ -1,7 +1,7 @@
 -- What judging accepts is a log of document 01's grammar: one BH, 0 to 8,000 CT, one ED and nothing more. (Grammar has the converse.)
 use mathlib.Core.Path.{_≡_, refl, sym, ap, _∙_, subst}
 use mathlib.Core.Bool.{true}
-use mathlib.Core.List.{List, [], _∷_, _++_, List·Memᴰ, List·Memᴰ·head, List·Memᴰ·tail, List·Memᴰ·not-nil}
+use mathlib.Core.List.{List, [], _∷_, _++_, List·Memᴰ·head, List·Memᴰ·tail, List·Memᴰ·not-nil}
 use Prim.Native.Nat.{ℕ, zero, suc, _+_, _≤_, _<_}
 use native.Mathlib.Nat.{add-zero}
 use native.Mathlib.Omega.{arith}
@@ -18,13 +18,10 @@ use Rattle.log.specs.Records.{sizeOf, kindOf, encode, encodeAll}
 use Rattle.log.specs.Outcomes.{Outcome, refused, success}
 use Rattle.log.specs.Judging.{start, advance, Judgement, stop, next, done, expected, validContact, judgeRecord, prepend, judgeIn, judgeFrom}
 use Rattle.log.specs.Meaning.{badgesOf, ticksOf}
-use Rattle.log.specs.Reading.{logRecords}
+use Rattle.log.specs.Reading.{Mem, logRecords}
 use Rattle.log.proofs.Outcomes.{refused-success, success-same}
 use Rattle.log.proofs.Records.{whole-encode}
 use Rattle.log.proofs.Stepping.{Continues, continues, Ends, ends, follow, followIn, step-in, judge-step}
-
-abbrev pub Mem : Record → List Record → Type 0
-Mem c cts = List·Memᴰ c cts
 
 -- an outcome with a record in front succeeds only if the outcome does
 record Fronted (r : Record) (o : Outcome (List Record)) (rs : List Record) : Type 0 where

@@ -22,11 +22,11 @@ use Rattle.log.specs.Judging.{validContact, judge}
 use Rattle.log.specs.Meaning.{badgesOf, ticksOf, inContact}
 use Rattle.log.specs.Days.{dayWords, dayOf}
 use Rattle.log.specs.Filling.{Accepts, Admissible, Fitting, Marks}
-use Rattle.log.specs.Reading.{logRecords}
+use Rattle.log.specs.Reading.{Mem, logRecords}
 use Rattle.log.proofs.Outcomes.{success-same}
 use Rattle.log.proofs.Records.{size-pos, length-encode, Encodable, decode-encode}
 use Rattle.log.proofs.Judged.{by-contact}
-use Rattle.log.proofs.Accepting.{Mem, accepted-of}
+use Rattle.log.proofs.Accepting.{accepted-of}
 use Rattle.log.proofs.WithinLimits.{limits-of}
 use Rattle.log.proofs.Days.{day-none}
 use Rattle.log.proofs.Marking.{marks-append}

@@ -18,11 +18,10 @@ use Rattle.log.specs.Limits.{maxContacts, withinLimits}
 use Rattle.log.specs.Records.{sizeOf, kindOf, decode, encode, encodeAll}
 use Rattle.log.specs.Outcomes.{Outcome, refused, success}
 use Rattle.log.specs.Judging.{start, advance, stop, next, done, expected, oneTooMany, validContact, judgeValues, judgeDecoded, judgeRecord, prepend, judgeFrom}
-use Rattle.log.specs.Reading.{logRecords}
+use Rattle.log.specs.Reading.{Mem, logRecords}
 use Rattle.log.proofs.Records.{length-encode, decode-encode, Encodable, contact-mark, encode-append}
 use Rattle.log.proofs.Judged.{judge-kind-too-many, judge-kind-allowed, header-good, contact-good, end-done}
 use Rattle.log.proofs.Stepping.{follow, judge-step}
-use Rattle.log.proofs.Accepting.{Mem}
 
 -- the judgement of an encoded record, whatever follows it
 judge-encoded : (st : State) (r : Record) (s : List ℕ) → Encodable r → expected st (kindOf r) ≡ true → oneTooMany st (kindOf r) ≡ false

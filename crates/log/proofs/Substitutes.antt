@@ -1,6 +1,6 @@
 -- Substitutes for reading that document 01's acceptance list names, each refuted from the promise that read keeps (specs/Reading).
 use mathlib.Core.Path.{_≡_, refl, ap}
-use mathlib.Core.List.{List, [], _∷_, List·Memᴰ, List·Memᴰ·head, List·Memᴰ·tail, List·Memᴰ·not-nil}
+use mathlib.Core.List.{List, [], _∷_, List·Memᴰ·head, List·Memᴰ·tail, List·Memᴰ·not-nil}
 use Prim.Native.Nat.{ℕ, _≤_, _<_}
 use native.Mathlib.Omega.{arith}
 use lib.ListN.{length}
@@ -15,7 +15,7 @@ use Rattle.log.specs.Judging.{validContact}
 use Rattle.log.specs.Meaning.{covers}
 use Rattle.log.specs.Days.{neighbours}
 use Rattle.log.specs.Calls.{Values, Read}
-use Rattle.log.specs.Reading.{logRecords, IsLog, Met, HasRead, Reads}
+use Rattle.log.specs.Reading.{Mem, logRecords, IsLog, Met, HasRead, Reads}
 use Rattle.log.proofs.Outcomes.{refused-success, success-same}
 use Rattle.log.proofs.Days.{same-words}
 
@@ -35,7 +35,7 @@ twice = meeting ∷ once
 bytesOf : List Record → List ℕ
 bytesOf cts = encodeAll (logRecords 2 1 cts)
 
-repeated : (cts : List Record) → ((c : Record) → List·Memᴰ c cts → c ≡ meeting) → length cts ≤ maxContacts → IsLog (bytesOf cts) 2 1 cts
+repeated : (cts : List Record) → ((c : Record) → Mem c cts → c ≡ meeting) → length cts ≤ maxContacts → IsLog (bytesOf cts) 2 1 cts
 unfolding withinLimits validContact _and_ isnt meeting bytesOf
 repeated cts same few = record { limits = refl; few = few; valid = λ c i. rw (same c i); bytes = refl }
 
@@ -43,12 +43,12 @@ never-log : IsLog (bytesOf never) 2 1 never
 unfolding never
 never-log = repeated [] (λ c i. absurd (List·Memᴰ·not-nil i)) (omega arith)
 
-in-once : (c : Record) → List·Memᴰ c once → c ≡ meeting
+in-once : (c : Record) → Mem c once → c ≡ meeting
 unfolding once
 in-once c (List·Memᴰ·head e) = e
 in-once c (List·Memᴰ·tail i) = absurd (List·Memᴰ·not-nil i)
 
-in-twice : (c : Record) → List·Memᴰ c twice → c ≡ meeting
+in-twice : (c : Record) → Mem c twice → c ≡ meeting
 unfolding twice once
 in-twice c (List·Memᴰ·head e) = e
 in-twice c (List·Memᴰ·tail i) = in-once c i
@@ -71,7 +71,7 @@ unfolding two
 refusing-all number offset words p = refused-success (p (bytesOf never) two 2 1 never never-log (omega arith) .answers)
 
 -- the contact is met in tick 0, by 0 with 1
-met : {cts : List Record} → List·Memᴰ meeting cts → Met cts 0 0 1
+met : {cts : List Record} → Mem meeting cts → Met cts 0 0 1
 unfolding covers _and_ _or_ meeting
 met i = (meeting, i, refl)
 

@@ -21,10 +21,10 @@ use Rattle.log.specs.Judging.{start, validContact, judgeFrom, judge}
 use Rattle.log.specs.Meaning.{badgesOf, ticksOf, covers, inContact}
 use Rattle.log.specs.Days.{neighbours, dayWords, dayOf, IsDay}
 use Rattle.log.specs.Calls.{valuesOf, Read, readOf, checkOf}
-use Rattle.log.specs.Reading.{logRecords, IsLog, Met, HasRead, Reads}
+use Rattle.log.specs.Reading.{Mem, logRecords, IsLog, Met, HasRead, Reads}
 use Rattle.log.proofs.Records.{length-encode, contacts-length, encode-append}
 use Rattle.log.proofs.Judged.{Valid, valid-of, by-contact}
-use Rattle.log.proofs.Accepting.{Mem, accepted-of}
+use Rattle.log.proofs.Accepting.{accepted-of}
 use Rattle.log.proofs.Grammar.{grammar-accepted, one-more-refused}
 use Rattle.log.proofs.Prefix.{judge-prefix}
 use Rattle.log.proofs.Verdicts.{values-log}

@@ -17,11 +17,11 @@ use Rattle.log.specs.Judging.{start, advance, stop, next, done, validCon
 use Rattle.log.specs.Steps.{Bounded}
 use Rattle.log.specs.Meaning.{badgesOf, ticksOf, contactsOf}
 use Rattle.log.specs.Calls.{Values, valuesOf, verdictOf}
-use Rattle.log.specs.Reading.{logRecords}
+use Rattle.log.specs.Reading.{Mem, logRecords}
 use Rattle.log.proofs.Records.{whole-size}
 use Rattle.log.proofs.Judged.{by-contact}
 use Rattle.log.proofs.Stepping.{Continues, continues, ends, follow, judge-step}
-use Rattle.log.proofs.Accepting.{Mem, accepted-of}
+use Rattle.log.proofs.Accepting.{accepted-of}
 
 abbrev values : ℕ → ℕ → ℕ → Values
 values n T m = record { badges = n; ticks = T; contacts = m }

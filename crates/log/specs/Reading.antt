@@ -16,6 +16,10 @@ use Rattle.log.specs.Meaning.{covers}
 use Rattle.log.specs.Days.{neighbours}
 use Rattle.log.specs.Calls.{Read}
 
+-- a record is one of these records
+abbrev pub Mem : Record → List Record → Type 0
+Mem c cts = List·Memᴰ c cts
+
 -- the records of a log with these contact records
 unfoldable pub logRecords : ℕ → ℕ → List Record → List Record
 logRecords n T cts = Header n T ∷ cts ++ End (length cts) ∷ []
@@ -24,12 +28,12 @@ logRecords n T cts = Header n T ∷ cts ++ End (length cts) ∷ []
 pub record IsLog (log : List ℕ) (n T : ℕ) (cts : List Record) : Type 0 where
   pub limits : withinLimits n T ≡ true
   pub few : length cts ≤ maxContacts
-  pub valid : (c : Record) → List·Memᴰ c cts → validContact n T c ≡ true
+  pub valid : (c : Record) → Mem c cts → validContact n T c ≡ true
   pub bytes : log ≡ encodeAll (logRecords n T cts)
 
 -- u and v are in contact in tick t: some contact record of the log covers it
 abbrev pub Met : List Record → ℕ → ℕ → ℕ → Type 0
-Met cts t u v = (c : Record) × List·Memᴰ c cts × (covers c t u v ≡ true)
+Met cts t u v = (c : Record) × Mem c cts × (covers c t u v ≡ true)
 
 -- What a call leaves that has read the log of these contacts into words that were lent: it answers the log's n, T and number of contact
 -- records; bit v of word t×n+u is set exactly when u and v are in contact in tick t; the words after the first n×T are as they were.
