@@ -10,8 +10,8 @@ use lib.ListN.{length, length-append}
 use borrow.Author.Tests.{lt-ltb, le-ltb, ltb-true, ltb-false}
 use Rattle.sets.specs.Bools.{isnt}
 use Rattle.sets.proofs.Bools.{clash, to-false, same-test}
-use Rattle.log.specs.Limits.{withinLimits, wordsFor}
-use Rattle.log.specs.Outcomes.{Outcome, refused, success, refuseIf}
+use Rattle.records.specs.Limits.{withinLimits, wordsFor}
+use Rattle.records.specs.Outcomes.{Outcome, refused, success, refuseIf}
 use Rattle.log.specs.Days.{neighbours, dayWords, IsDay, isDay}
 use Rattle.log.specs.Calls.{checkOf}
 use Rattle.log.proofs.Days.{day-length, neighbours-append, relation-day, day-head}

@@ -6,16 +6,17 @@ use lib.ListN.{length}
 use Rattle.sets.specs.Bools.{_and_, _or_, isnt, all}
 use Rattle.sets.specs.Sets.{bit, setOf}
 use Rattle.sets.specs.Bytes.{littleEndian, fromLittleEndian}
-use Rattle.log.specs.declared.record.Record.{Record}
-use Rattle.log.specs.declared.record.Record.the-variants.{Contact}
-use Rattle.log.specs.Limits.{withinLimits}
-use Rattle.log.specs.Records.{fieldsOf, encode, encodeAll, isMark, markFrom, recordFrom, decodeMarked, decode}
-use Rattle.log.specs.Outcomes.{refused, success, refuseIf}
-use Rattle.log.specs.Judging.{validContact, judgeKind, judgeValues, judgeDecoded, judgeRecord, prepend, judgeIn, judgeFrom, judge}
-use Rattle.log.specs.Meaning.{badgesOf, ticksOf, contactsOf, covers, inContact}
+use Rattle.records.specs.declared.record.Record.{Record}
+use Rattle.records.specs.declared.record.Record.the-variants.{Contact}
+use Rattle.records.specs.Limits.{withinLimits}
+use Rattle.records.specs.Records.{fieldsOf, encode, encodeAll, isMark, markFrom, recordFrom, decodeMarked, decode}
+use Rattle.records.specs.Outcomes.{refused, success, refuseIf}
+use Rattle.records.specs.Judging.{validContact, judgeKind, judgeValues, judgeDecoded, judgeRecord, prepend, judgeIn, judgeFrom, judge}
+use Rattle.records.specs.Meaning.{badgesOf, ticksOf, contactsOf, covers, inContact}
 use Rattle.log.specs.Days.{neighbours, tabulate, tickWords, dayWords, dayOf, isTick, isDay}
-use Rattle.log.specs.Calls.{valuesOf, readJudged, readOf, checkOf}
-use Rattle.log.specs.Reading.{logRecords}
+use Rattle.records.specs.Verdicts.{valuesOf}
+use Rattle.log.specs.Calls.{readJudged, readOf, checkOf}
+use Rattle.records.specs.Logs.{logRecords}
 
 -- contacts 0–1, 0–2 and 1–2 in ticks 0 to 1, and 2–3 in ticks 0 to 2
 d1Contacts : List Record

@@ -8,26 +8,26 @@ use native.Mathlib.Omega.{arith}
 use lib.ListN.{length, drop, replicate, length-drop, length-append, length-replicate}
 use lib.Seq.{drop-drop, drop-at}
 use Rattle.sets.specs.Bytes.{Bytes}
-use Rattle.log.specs.declared.record.Record.{Record}
-use Rattle.log.specs.declared.record.Record.the-variants.{End}
-use Rattle.log.specs.declared.record.Decoded.{Decoded}
-use Rattle.log.specs.declared.record.Decoded.the-variants as d
-use Rattle.log.proofs.record.Decoded.{the-type}
+use Rattle.records.specs.declared.record.Record.{Record}
+use Rattle.records.specs.declared.record.Record.the-variants.{End}
+use Rattle.records.specs.declared.record.Decoded.{Decoded}
+use Rattle.records.specs.declared.record.Decoded.the-variants as d
+use Rattle.records.proofs.record.Decoded.{the-type}
 use denote.Enum.Declared.{tagOf}
 use types.Run.{OneOf}
-use Rattle.log.specs.Limits.{maxContacts, wordsFor}
-use Rattle.log.specs.Records.{sizeOf, kindOf, decode, encode, encodeAll}
-use Rattle.log.specs.Outcomes.{success}
-use Rattle.log.specs.Judging.{validContact, judge}
-use Rattle.log.specs.Meaning.{badgesOf, ticksOf, inContact}
+use Rattle.records.specs.Limits.{maxContacts, wordsFor}
+use Rattle.records.specs.Records.{sizeOf, kindOf, decode, encode, encodeAll}
+use Rattle.records.specs.Outcomes.{success}
+use Rattle.records.specs.Judging.{validContact, judge}
+use Rattle.records.specs.Meaning.{badgesOf, ticksOf, inContact}
 use Rattle.log.specs.Days.{dayWords, dayOf}
 use Rattle.log.specs.Filling.{Accepts, Admissible, Fitting, Marks}
-use Rattle.log.specs.Reading.{Mem, logRecords}
-use Rattle.log.proofs.Outcomes.{success-same}
-use Rattle.log.proofs.Records.{size-pos, length-encode, Encodable, decode-encode}
-use Rattle.log.proofs.Judged.{by-contact}
-use Rattle.log.proofs.Accepting.{accepted-of}
-use Rattle.log.proofs.WithinLimits.{limits-of}
+use Rattle.records.specs.Logs.{Mem, logRecords}
+use Rattle.records.proofs.Outcomes.{success-same}
+use Rattle.records.proofs.Records.{size-pos, length-encode, Encodable, decode-encode}
+use Rattle.records.proofs.Judged.{by-contact}
+use Rattle.records.proofs.Accepting.{accepted-of}
+use Rattle.records.proofs.WithinLimits.{limits-of}
 use Rattle.log.proofs.Days.{day-none}
 use Rattle.log.proofs.Marking.{marks-append}
 

@@ -19,16 +19,16 @@ use Rattle.sets.specs.Sets.{In, union, only}
 use Rattle.sets.specs.Members.{capacity, insert}
 use Rattle.sets.proofs.Bools.{and-in, and-left, and-right, or-left, or-right, or-of, or-false, same-test}
 use Rattle.sets.proofs.Sets.{in-union-left, in-union-right, of-union, in-only, of-only, insert-in}
-use Rattle.log.specs.declared.record.Record.{Record}
-use Rattle.log.specs.declared.record.Record.the-variants.{Contact}
-use Rattle.log.specs.Limits.{maxBadges}
-use Rattle.log.specs.Judging.{validContact}
-use Rattle.log.specs.Meaning.{covers, inContact}
+use Rattle.records.specs.declared.record.Record.{Record}
+use Rattle.records.specs.declared.record.Record.the-variants.{Contact}
+use Rattle.records.specs.Limits.{maxBadges}
+use Rattle.records.specs.Judging.{validContact}
+use Rattle.records.specs.Meaning.{covers, inContact}
 use Rattle.log.specs.Days.{neighbours, dayWords}
 use Rattle.log.specs.Filling.{Fitting, marked, Marks}
-use Rattle.log.proofs.Judged.{valid-of}
+use Rattle.records.proofs.Judged.{valid-of}
 use Rattle.log.proofs.Days.{day-length, tick-fits, in-day, of-day, day-by, day-same}
-use Rattle.log.proofs.Meaning.{Covers, covers-of, covers-in, contact-append}
+use Rattle.records.proofs.Meaning.{Covers, covers-of, covers-in, contact-append}
 
 -- badge v inserted into word i: every word has the members that it had, word i has v as well, and nothing else is new
 abbrev inserted : List ℕ → ℕ → ℕ → List ℕ

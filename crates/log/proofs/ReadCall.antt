@@ -4,17 +4,18 @@ use mathlib.Core.List.{List, _++_}
 use Prim.Native.Nat.{ℕ, _≤_, _<_}
 use lib.ListN.{length, drop}
 use borrow.Author.Tests.{lt-ltb, le-ltb}
-use Rattle.log.specs.declared.record.Record.{Record}
-use Rattle.log.specs.Limits.{wordsFor}
-use Rattle.log.specs.Outcomes.{Outcome, refused, success}
-use Rattle.log.specs.Judging.{judge}
-use Rattle.log.specs.Meaning.{badgesOf, ticksOf}
+use Rattle.records.specs.declared.record.Record.{Record}
+use Rattle.records.specs.Limits.{wordsFor}
+use Rattle.records.specs.Outcomes.{Outcome, refused, success}
+use Rattle.records.specs.Judging.{judge}
+use Rattle.records.specs.Meaning.{badgesOf, ticksOf}
 use Rattle.log.specs.Days.{dayOf}
 use Rattle.log.specs.Filling.{Accepts}
-use Rattle.log.specs.Calls.{Values, valuesOf, verdictOf, Read, readJudged, readOf}
-use Rattle.log.proofs.Outcomes.{refused-success, success-same, refused-same}
-use Rattle.log.proofs.Accepting.{accepted-of}
-use Rattle.log.proofs.WithinLimits.{limits-of, words-most}
+use Rattle.records.specs.Verdicts.{Values, valuesOf, verdictOf}
+use Rattle.log.specs.Calls.{Read, readJudged, readOf}
+use Rattle.records.proofs.Outcomes.{refused-success, success-same, refused-same}
+use Rattle.records.proofs.Accepting.{accepted-of}
+use Rattle.records.proofs.WithinLimits.{limits-of, words-most}
 
 abbrev left : Outcome Values → List ℕ → Read
 left answer words = record { answer = answer; words = words }

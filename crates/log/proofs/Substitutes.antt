@@ -6,17 +6,19 @@ use native.Mathlib.Omega.{arith}
 use lib.ListN.{length}
 use Rattle.sets.specs.Bools.{_and_, _or_, isnt}
 use Rattle.sets.proofs.Sets.{not-in-none, ext}
-use Rattle.log.specs.declared.record.Record.{Record}
-use Rattle.log.specs.declared.record.Record.the-variants.{Contact}
-use Rattle.log.specs.Limits.{maxContacts, withinLimits}
-use Rattle.log.specs.Records.{encodeAll}
-use Rattle.log.specs.Outcomes.{Outcome, refused, success}
-use Rattle.log.specs.Judging.{validContact}
-use Rattle.log.specs.Meaning.{covers}
+use Rattle.records.specs.declared.record.Record.{Record}
+use Rattle.records.specs.declared.record.Record.the-variants.{Contact}
+use Rattle.records.specs.Limits.{maxContacts, withinLimits}
+use Rattle.records.specs.Records.{encodeAll}
+use Rattle.records.specs.Outcomes.{Outcome, refused, success}
+use Rattle.records.specs.Judging.{validContact}
+use Rattle.records.specs.Meaning.{covers}
 use Rattle.log.specs.Days.{neighbours}
-use Rattle.log.specs.Calls.{Values, Read}
-use Rattle.log.specs.Reading.{Mem, logRecords, IsLog, Met, HasRead, Reads}
-use Rattle.log.proofs.Outcomes.{refused-success, success-same}
+use Rattle.records.specs.Verdicts.{Values}
+use Rattle.log.specs.Calls.{Read}
+use Rattle.records.specs.Logs.{Mem, logRecords, IsLog, Met}
+use Rattle.log.specs.Reading.{HasRead, Reads}
+use Rattle.records.proofs.Outcomes.{refused-success, success-same}
 use Rattle.log.proofs.Days.{same-words}
 
 -- logs of two badges and one tick: the contact 0–1 not given, given once, given twice

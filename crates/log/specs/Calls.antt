@@ -5,34 +5,15 @@ use Prim.Native.Nat.{ℕ}
 use lib.Dec.{ltb}
 use lib.ListN.{length, drop}
 use Rattle.sets.specs.Bools.{isnt}
-use Rattle.log.specs.declared.record.Record.{Record}
-use Rattle.log.specs.declared.judging.Verdict.{Verdict}
-use Rattle.log.specs.declared.judging.Verdict.the-variants as v
+use Rattle.records.specs.declared.record.Record.{Record}
 use Rattle.log.specs.declared.checking.Checked.{Checked}
 use Rattle.log.specs.declared.checking.Checked.the-variants as c
-use Rattle.log.specs.Limits.{withinLimits, wordsFor}
-use Rattle.log.specs.Outcomes.{Outcome, refused, success, refuseIf, refusedBy}
-use Rattle.log.specs.Judging.{judge}
-use Rattle.log.specs.Meaning.{badgesOf, ticksOf, contactsOf}
+use Rattle.records.specs.Limits.{withinLimits, wordsFor}
+use Rattle.records.specs.Outcomes.{Outcome, refused, success, refuseIf, refusedBy}
+use Rattle.records.specs.Judging.{judge}
+use Rattle.records.specs.Meaning.{badgesOf, ticksOf}
+use Rattle.records.specs.Verdicts.{Values, valuesOf}
 use Rattle.log.specs.Days.{dayOf, isDay}
-
--- what reading answers: n, T and the number of contact records as given
-pub record Values : Type 0 where
-  pub badges : ℕ
-  pub ticks : ℕ
-  pub contacts : ℕ
-
-unfoldable pub valuesOf : List Record → Values
-valuesOf rs = record { badges = badgesOf rs; ticks = ticksOf rs; contacts = contactsOf rs }
-
--- judging as a call sees it: the refusal, or the values
-unfoldable pub verdictOf : Outcome (List Record) → Outcome Values
-verdictOf (refused number offset) = refused number offset
-verdictOf (success rs) = success (valuesOf rs)
-
-abbrev pub verdictOutcome : Verdict → Outcome Values
-verdictOutcome (v.Accepted n T m) = success (record { badges = n; ticks = T; contacts = m })
-verdictOutcome (v.Refused x) = refusedBy x
 
 -- read: its answer, and the words that were lent. "Read: log, 8."
 pub record Read : Type 0 where

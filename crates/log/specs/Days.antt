@@ -7,8 +7,8 @@ use lib.Dec.{ltb}
 use lib.ListN.{getD}
 use Rattle.sets.specs.Bools.{_and_, _or_, isnt, all}
 use Rattle.sets.specs.Sets.{In, has, setOf}
-use Rattle.log.specs.declared.record.Record.{Record}
-use Rattle.log.specs.Meaning.{badgesOf, ticksOf, inContact}
+use Rattle.records.specs.declared.record.Record.{Record}
+use Rattle.records.specs.Meaning.{badgesOf, ticksOf, inContact}
 
 -- the badges in contact with u in tick t of a day of n badges, as a set
 unfoldable pub neighbours : ℕ → List ℕ → ℕ → ℕ → ℕ

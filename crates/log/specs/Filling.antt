@@ -6,12 +6,12 @@ use Prim.Native.Nat.{ℕ, _+_, _*_, _≤_}
 use lib.ListN.{set}
 use Rattle.sets.specs.Bools.{_or_}
 use Rattle.sets.specs.Sets.{union, only}
-use Rattle.log.specs.declared.record.Record.{Record}
-use Rattle.log.specs.declared.record.Record.the-variants.{Header, Contact, End}
-use Rattle.log.specs.Limits.{maxBadges, wordsFor}
-use Rattle.log.specs.Outcomes.{success}
-use Rattle.log.specs.Judging.{judge, validContact}
-use Rattle.log.specs.Meaning.{badgesOf, ticksOf, covers}
+use Rattle.records.specs.declared.record.Record.{Record}
+use Rattle.records.specs.declared.record.Record.the-variants.{Header, Contact, End}
+use Rattle.records.specs.Limits.{maxBadges, wordsFor}
+use Rattle.records.specs.Outcomes.{success}
+use Rattle.records.specs.Judging.{judge, validContact}
+use Rattle.records.specs.Meaning.{badgesOf, ticksOf, covers}
 use Rattle.log.specs.Days.{neighbours, dayWords}
 
 -- a log that judging accepts with these n and T

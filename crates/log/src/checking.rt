@@ -2,11 +2,11 @@
 ghost use mathlib.Core.Path.{_≡_};
 ghost use Prim.Native.Nat.{_*_, _≤_};
 ghost use lib.ListN.{length};
-ghost use Rattle.log.specs.Limits.{maxBadges, wordsFor};
+ghost use Rattle.records.specs.Limits.{maxBadges, wordsFor};
 ghost use Rattle.log.specs.Days.{isDay};
 ghost use Rattle.log.specs.Calls.{checkOf, checkedOutcome};
-use crate::limits::within_limits;
-use crate::refusal::Refusal;
+use records::Refusal;
+use records::within_limits;
 use sets::BadgeSet;
 
 // Whether words are those of a day of n badges and T ticks.

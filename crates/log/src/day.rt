@@ -1,18 +1,18 @@
 // Filling the words of a day from an accepted log.
 ghost use mathlib.Core.Path.{_≡_};
 ghost use mathlib.Core.List.{_++_, List};
-ghost use Prim.Native.Nat.{ℕ, _+_, _*_, _<_, _≤_};
+ghost use Prim.Native.Nat.{_+_, _*_, _<_, _≤_};
 ghost use lib.ListN.{length, drop, replicate};
-ghost use Rattle.log.specs.Limits.{maxBadges, wordsFor};
-ghost use Rattle.log.specs.Outcomes.{success};
-ghost use Rattle.log.specs.Judging.{judge};
+ghost use Rattle.records.specs.Limits.{maxBadges, wordsFor};
+ghost use Rattle.records.specs.Outcomes.{success};
+ghost use Rattle.records.specs.Judging.{judge};
 ghost use Rattle.log.specs.Days.{dayOf};
 ghost use Rattle.log.specs.Filling.{Accepts, Fitting, marked, Marks};
-use crate::record::Decoded;
-use crate::record::Record;
-use crate::record::decode;
-use crate::record::kind_of;
-use crate::record::size_of;
+use records::Decoded;
+use records::Record;
+use records::decode;
+use records::kind_of;
+use records::size_of;
 use sets::BadgeSet;
 
 // The first count words are zero.

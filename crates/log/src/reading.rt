@@ -1,10 +1,11 @@
 // The call that takes a log into day words.
 ghost use mathlib.Core.Path.{_≡_};
-ghost use Rattle.log.specs.Calls.{readOf, verdictOutcome};
+ghost use Rattle.records.specs.Verdicts.{verdictOutcome};
+ghost use Rattle.log.specs.Calls.{readOf};
 use crate::day::fill;
-use crate::judging::Verdict;
-use crate::judging::judge;
-use crate::refusal::Refusal;
+use records::Refusal;
+use records::Verdict;
+use records::judge;
 
 // Reads a log into the words that are lent: word t×n+u has bit v set exactly when u and v are in contact in tick t.
 // The whole log is judged first, then 8; a refused call changes no word, and words after the first n×T are never touched.

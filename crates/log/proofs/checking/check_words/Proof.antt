@@ -5,8 +5,8 @@ use mathlib.Core.Bool.{true}
 use mathlib.Core.Path.{_≡_, sym, _∙_}
 use native.Mathlib.Omega.{arith}
 use Rattle.sets.proofs.Bools.{clash}
-use Rattle.log.specs.Limits.{withinLimits}
-use Rattle.log.proofs.WithinLimits.{limits-of, words-most}
+use Rattle.records.specs.Limits.{withinLimits}
+use Rattle.records.proofs.WithinLimits.{limits-of, words-most}
 use Rattle.log.proofs.Scan.{day-in, day-of}
 use Rattle.log.proofs.Checks.{check-limits, check-few, check-broken, check-day}
 use Rattle.log.proofs.checking.check_words.Statement.{statement}
