@@ -6,8 +6,21 @@ pub mod Marking
 pub mod Filled
 pub mod Scan
 pub mod Checks
+-- the runs of a pair, and the tidy form
+pub mod Runs
+pub mod Concat
+pub mod TidyForm
+pub mod TidyCount
+-- the tidy log: its runs appended one after the other, and the whole put into a buffer
+pub mod Delivering
+pub mod Appending
 -- reading as a whole
 pub mod ReadCall
 pub mod Theorems
+pub mod TidyCall
+pub mod TidyTheorems
+pub mod WriteTheorems
+pub mod SmallLogs
 pub mod Substitutes
+pub mod TidySubstitutes
 pub mod Examples

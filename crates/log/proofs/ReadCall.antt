@@ -17,7 +17,7 @@ use Rattle.records.proofs.Outcomes.{refused-success, success-same, refused-same
 use Rattle.records.proofs.Accepting.{accepted-of}
 use Rattle.records.proofs.WithinLimits.{limits-of, words-most}
 
-abbrev left : Outcome Values → List ℕ → Read
+abbrev pub left : Outcome Values → List ℕ → Read
 left answer words = record { answer = answer; words = words }
 
 -- the log's refusal first, then 8, and success otherwise

@@ -1,86 +1,27 @@
 -- Substitutes for reading that document 01's acceptance list names, each refuted from the promise that read keeps (specs/Reading).
 use mathlib.Core.Path.{_≡_, refl, ap}
-use mathlib.Core.List.{List, [], _∷_, List·Memᴰ·head, List·Memᴰ·tail, List·Memᴰ·not-nil}
-use Prim.Native.Nat.{ℕ, _≤_, _<_}
+use mathlib.Core.List.{List, List·Memᴰ·head, List·Memᴰ·tail}
+use Prim.Native.Nat.{ℕ, _<_}
 use native.Mathlib.Omega.{arith}
-use lib.ListN.{length}
-use Rattle.sets.specs.Bools.{_and_, _or_, isnt}
 use Rattle.sets.proofs.Sets.{not-in-none, ext}
-use Rattle.records.specs.declared.record.Record.{Record}
-use Rattle.records.specs.declared.record.Record.the-variants.{Contact}
-use Rattle.records.specs.Limits.{maxContacts, withinLimits}
-use Rattle.records.specs.Records.{encodeAll}
 use Rattle.records.specs.Outcomes.{Outcome, refused, success}
-use Rattle.records.specs.Judging.{validContact}
-use Rattle.records.specs.Meaning.{covers}
 use Rattle.log.specs.Days.{neighbours}
 use Rattle.records.specs.Verdicts.{Values}
 use Rattle.log.specs.Calls.{Read}
-use Rattle.records.specs.Logs.{Mem, logRecords, IsLog, Met}
 use Rattle.log.specs.Reading.{HasRead, Reads}
 use Rattle.records.proofs.Outcomes.{refused-success, success-same}
 use Rattle.log.proofs.Days.{same-words}
-
--- logs of two badges and one tick: the contact 0–1 not given, given once, given twice
-meeting : Record
-meeting = Contact 0 1 0 0
-
-never : List Record
-never = []
-
-once : List Record
-once = meeting ∷ []
-
-twice : List Record
-twice = meeting ∷ once
-
-bytesOf : List Record → List ℕ
-bytesOf cts = encodeAll (logRecords 2 1 cts)
-
-repeated : (cts : List Record) → ((c : Record) → Mem c cts → c ≡ meeting) → length cts ≤ maxContacts → IsLog (bytesOf cts) 2 1 cts
-unfolding withinLimits validContact _and_ isnt meeting bytesOf
-repeated cts same few = record { limits = refl; few = few; valid = λ c i. rw (same c i); bytes = refl }
-
-never-log : IsLog (bytesOf never) 2 1 never
-unfolding never
-never-log = repeated [] (λ c i. absurd (List·Memᴰ·not-nil i)) (omega arith)
-
-in-once : (c : Record) → Mem c once → c ≡ meeting
-unfolding once
-in-once c (List·Memᴰ·head e) = e
-in-once c (List·Memᴰ·tail i) = absurd (List·Memᴰ·not-nil i)
-
-in-twice : (c : Record) → Mem c twice → c ≡ meeting
-unfolding twice once
-in-twice c (List·Memᴰ·head e) = e
-in-twice c (List·Memᴰ·tail i) = in-once c i
-
-once-log : IsLog (bytesOf once) 2 1 once
-unfolding once
-once-log = repeated once in-once (omega arith)
-
-twice-log : IsLog (bytesOf twice) 2 1 twice
-unfolding twice once
-twice-log = repeated twice in-twice (omega arith)
-
--- two words are enough for each
-two : List ℕ
-two = 0 ∷ 0 ∷ []
+use Rattle.log.proofs.SmallLogs.{never, once, twice, bytesOf, never-log, in-twice, once-log, twice-log, two, met}
 
 -- Refusing all logs, with whatever number, offset and words.
 pub refusing-all : (number offset : List ℕ → List ℕ → ℕ) (words : List ℕ → List ℕ → List ℕ) → Reads (λ log ws. record { answer = refused (number log ws) (offset log ws); words = words log ws }) → ⊥
 unfolding two
 refusing-all number offset words p = refused-success (p (bytesOf never) two 2 1 never never-log (omega arith) .answers)
 
--- the contact is met in tick 0, by 0 with 1
-met : {cts : List Record} → Mem meeting cts → Met cts 0 0 1
-unfolding covers _and_ _or_ meeting
-met i = (meeting, i, refl)
-
 -- Leaving the words untouched, with whatever answer.
 pub words-untouched : (answer : List ℕ → List ℕ → Outcome Values) → Reads (λ log ws. record { answer = answer log ws; words = ws }) → ⊥
 unfolding two neighbours once
-words-untouched answer p = not-in-none 1 (p (bytesOf once) two 2 1 once once-log (omega arith) .marks 0 0 1 (omega arith) (omega arith) .1 (met (List·Memᴰ·head refl)))
+words-untouched answer p = not-in-none 1 (p (bytesOf once) two 2 1 once once-log (omega arith) .day .marks 0 0 1 (omega arith) (omega arith) .1 (met (List·Memᴰ·head refl)))
 
 -- Inventing the number of contact records: one that is the same for all logs, and one that the words alone decide.
 abbrev inventing : (List ℕ → ℕ) → (badges ticks : List ℕ → List ℕ → ℕ) → (List ℕ → List ℕ → List ℕ) → List ℕ → List ℕ → Read
@@ -107,11 +48,11 @@ count-from-words count badges ticks words p =
     -- the contact is met where it is given once exactly when it is met where it is given twice
     row : (t u : ℕ) → t < 1 → u < 2 → neighbours 2 (words (bytesOf once) two) t u ≡ neighbours 2 (words (bytesOf twice) two) t u
     row t u h k = ext _ _
-        (λ v i. let m = first .marks t u v h k .0 i in second .marks t u v h k .1 (m .0, List·Memᴰ·tail (m .1), m .2))
-        (λ v i. let m = second .marks t u v h k .0 i in first .marks t u v h k .1 (m .0, List·Memᴰ·head (in-twice (m .0) (m .1)), m .2))
+        (λ v i. let m = first .day .marks t u v h k .0 i in second .day .marks t u v h k .1 (m .0, List·Memᴰ·tail (m .1), m .2))
+        (λ v i. let m = second .day .marks t u v h k .0 i in first .day .marks t u v h k .1 (m .0, List·Memᴰ·head (in-twice (m .0) (m .1)), m .2))
 
     same : words (bytesOf once) two ≡ words (bytesOf twice) two
-    same = same-words 2 1 _ _ (first .long) (second .long) row
+    same = same-words 2 1 _ _ (first .day .long) (second .day .long) row
 
 pub count-fixed : (count : ℕ) (badges ticks : List ℕ → List ℕ → ℕ) (words : List ℕ → List ℕ → List ℕ) → Reads (inventing (λ ws. count) badges ticks words) → ⊥
 count-fixed count badges ticks words p = count-from-words (λ ws. count) badges ticks words p

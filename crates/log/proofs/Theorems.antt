@@ -15,7 +15,7 @@ use Rattle.records.specs.Limits.{wordsFor}
 use Rattle.records.specs.Outcomes.{success}
 use Rattle.records.specs.Judging.{validContact, judge}
 use Rattle.records.specs.Meaning.{badgesOf, ticksOf, inContact}
-use Rattle.records.proofs.Theorems.{log-accepted, met-in, met-of, covered-lt}
+use Rattle.records.proofs.Theorems.{log-accepted, met-in, met-of, met-below, met-apart}
 use Rattle.log.specs.Days.{neighbours, dayWords, dayOf, IsDay}
 use Rattle.records.specs.Verdicts.{valuesOf}
 use Rattle.log.specs.Calls.{Read, readOf, checkOf}
@@ -24,7 +24,7 @@ use Rattle.log.specs.Reading.{HasRead, Reads}
 use Rattle.records.proofs.Accepting.{accepted-of}
 use Rattle.records.proofs.Verdicts.{values-log}
 use Rattle.log.proofs.Days.{day-length, neighbours-append, in-day, of-day, relation-day}
-use Rattle.records.proofs.Meaning.{contact-swap, covers-apart}
+use Rattle.records.proofs.Meaning.{contact-swap}
 use Rattle.log.proofs.ReadCall.{read-success}
 use Rattle.log.proofs.Checks.{check-append, check-day}
 
@@ -36,7 +36,7 @@ module _ (n T : ℕ) (cts : List Record) (valid : (c : Record) → Mem c cts →
   pub log-bits : (t u v : ℕ) → t < T → u < n → In (neighbours n words t u) v ↔ Met cts t u v
   log-bits t u v h k = (
     λ i. met-of n T cts t u v (of-day n T _ t u v h k (subst (λ (x : ℕ). In x v) same i) .1),
-    λ m. subst (λ (x : ℕ). In x v) (sym same) (in-day n T _ t u v h k (covered-lt n T (m .0) t u v (valid (m .0) (m .1)) (m .2)) (met-in n T cts t u v m)),
+    λ m. subst (λ (x : ℕ). In x v) (sym same) (in-day n T _ t u v h k (met-below n T cts valid t u v m .2) (met-in n T cts t u v m)),
   )
     where
       same : neighbours n words t u ≡ neighbours n (dayWords n T (inContact (logRecords n T cts))) t u
@@ -50,11 +50,8 @@ accepted-day log rs e =
     let n = badgesOf rs in
     let T = ticksOf rs in
     relation-day n T (inContact rs)
-    (λ t u h k f. self n T (a .cts) (a .valid) t u (subst (λ (x : List Record). inContact x t u u ≡ true) (a .records) f))
+    (λ t u h k f. met-apart n T (a .cts) (a .valid) t u (subst (λ (x : List Record). inContact x t u u ≡ true) (a .records) f))
     (λ t u v h k l f. contact-swap rs t u v f)
-  where
-    self : (n T : ℕ) (cts : List Record) → ((c : Record) → Mem c cts → validContact n T c ≡ true) → (t u : ℕ) → inContact (logRecords n T cts) t u u ≡ true → ⊥
-    self n T cts valid t u f = let m = met-of n T cts t u u f in covers-apart n T (m .0) t u (valid (m .0) (m .1)) (m .2)
 
 pub accepted-passes : (log : List ℕ) (rs : List Record) (rest : List ℕ) → judge log ≡ success rs → checkOf (badgesOf rs) (ticksOf rs) (dayOf rs ++ rest) ≡ success tt
 unfolding judge dayOf
@@ -66,8 +63,8 @@ accepted-passes log rs rest e =
 pub read-succeeds : (log ws : List ℕ) (rs : List Record) → judge log ≡ success rs → wordsFor (badgesOf rs) (ticksOf rs) ≤ length ws → readOf log ws .answer ≡ success (valuesOf rs)
 read-succeeds log ws rs e h = ap (λ (x : Read). x .answer) (read-success log ws rs e h)
 
--- Reading keeps its promise.
-read-log : (log ws : List ℕ) (n T : ℕ) (cts : List Record) → IsLog log n T cts → wordsFor n T ≤ length ws
+-- what reading leaves of a log, and that it keeps its promise
+pub read-log : (log ws : List ℕ) (n T : ℕ) (cts : List Record) → IsLog log n T cts → wordsFor n T ≤ length ws
     → readOf log ws ≡ record { answer = success (valuesOf (logRecords n T cts)); words = dayWords n T (inContact (logRecords n T cts)) ++ drop (wordsFor n T) ws }
 unfolding dayOf logRecords badgesOf ticksOf
 read-log log ws n T cts l h = read-success log ws (logRecords n T cts) (log-accepted log n T cts l) h
@@ -79,7 +76,9 @@ reads log ws n T cts l h =
     let long = day-length n T (inContact (logRecords n T cts)) in
     subst (HasRead n T cts ws) (sym (read-log log ws n T cts l h)) (record {
       answers = ap success (values-log n T cts (l .valid));
-      marks = log-bits n T cts (l .valid) rest;
-      keeps = drop-at day rest (wordsFor n T) long;
-      long = omega (arith, length-append day rest, long, length-drop (wordsFor n T) ws);
+      day = record {
+        marks = log-bits n T cts (l .valid) rest;
+        keeps = drop-at day rest (wordsFor n T) long;
+        long = omega (arith, length-append day rest, long, length-drop (wordsFor n T) ws);
+      };
     })

@@ -14,6 +14,10 @@ use Rattle.records.specs.Meaning.{badgesOf, ticksOf, inContact}
 unfoldable pub neighbours : ℕ → List ℕ → ℕ → ℕ → ℕ
 neighbours n ws t u = getD ws (t * n + u) 0
 
+-- u and v are in contact in tick t, by the words
+unfoldable pub adjacent : ℕ → List ℕ → ℕ → ℕ → ℕ → Bool
+adjacent n ws t u v = has (neighbours n ws t u) v
+
 -- a list by its elements
 unfoldable pub tabulate : ℕ → (ℕ → ℕ) → List ℕ
 tabulate zero f = []

@@ -1,13 +1,20 @@
-// The day that a contact log says, in words that the host lends.
+// Contact logs, and the day that they say, in words that the host lends.
 //
-// `read` takes a log into day words; `check_words` is the check that every call on words begins with.
-// Nothing here knows of groups.
+// `read` takes a log into day words, `write` takes day words to their tidy log, and `tidy` takes a log to its tidy log; `check_words` is
+// the check that every call on words begins with. Nothing here knows of groups.
 mod checking;
 mod day;
+mod encoding;
+mod pairs;
 mod reading;
+mod tidying;
+mod writing;
 
 pub use checking::Checked;
 pub use checking::check_words;
 pub use reading::read;
 pub use records::Refusal;
 pub use records::Verdict;
+pub use tidying::tidy;
+pub use writing::Written;
+pub use writing::write;

@@ -14,6 +14,10 @@ maxTicks = 96
 abbrev pub maxContacts : ℕ
 maxContacts = 8000
 
+-- the bytes of the longest log: a header, 8,000 contacts and an end
+abbrev pub maxLogBytes : ℕ
+maxLogBytes = 48010
+
 -- "n from 1 to 64", "T from 1 to 96"
 unfoldable pub withinLimits : ℕ → ℕ → Bool
 withinLimits n T = leb 1 n and leb n maxBadges and leb 1 T and leb T maxTicks

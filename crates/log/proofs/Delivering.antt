@@ -1,0 +1,74 @@
+-- Laws of bytes that are laid over a buffer, and of the tidy log that is put into the buffer that is lent.
+use mathlib.Core.Path.{_≡_, sym, ap, _∙_}
+use mathlib.Core.Bool.{Bool}
+use mathlib.Core.List.{List, _++_, append-assoc}
+use Prim.Native.Nat.{ℕ, _+_, _*_, _≤_, _<_}
+use native.Mathlib.Nat.{zero-add}
+use native.Mathlib.Omega.{arith}
+use lib.ListN.{length, take, drop}
+use lib.Seq.{paste, take-length, take-paste, length-take-le}
+use borrow.Author.Tests.{lt-ltb, le-ltb}
+use Rattle.records.specs.Limits.{maxContacts, maxLogBytes}
+use Rattle.records.specs.Outcomes.{refused, success, refuseIf}
+use Rattle.log.specs.Buffers.{deliver, overwrite}
+use Rattle.log.specs.Days.{adjacent}
+use Rattle.log.specs.Tidy.{tidyContacts, tidyLog}
+use Rattle.log.specs.Writing.{Encodes}
+use Rattle.log.specs.Calls.{tidyBytes}
+
+-- bytes laid over a buffer are a copy of all of them
+pub overwrite-paste : (at : ℕ) (bytes buffer : List ℕ) → overwrite at bytes buffer ≡ paste buffer at bytes (length bytes)
+unfolding overwrite
+overwrite-paste at bytes buffer = rw (take-length bytes) (sym (append-assoc (take at buffer) bytes (drop (at + length bytes) buffer)))
+
+-- the front of the buffer, up to their end
+pub take-overwrite : (at : ℕ) (bytes buffer : List ℕ) → at + length bytes ≤ length buffer → take (at + length bytes) (overwrite at bytes buffer) ≡ take at buffer ++ bytes
+take-overwrite at bytes buffer h =
+    rw (overwrite-paste at bytes buffer)
+    (take-paste buffer at bytes (length bytes) (omega arith) (omega arith) ∙ ap (λ (s : List ℕ). take at buffer ++ s) (take-length bytes))
+
+-- more than 8,000 contact records are refused, and no more than that make the tidy log
+module _ (number n T : ℕ) (r : ℕ → ℕ → ℕ → Bool) where
+  pub bytes-many : maxContacts < length (tidyContacts n T r) → tidyBytes number n T r ≡ refused number 0
+  unfolding tidyBytes refuseIf
+  bytes-many h = rw (tidyBytes, lt-ltb maxContacts (length (tidyContacts n T r)) h)
+
+  pub bytes-few : length (tidyContacts n T r) ≤ maxContacts → tidyBytes number n T r ≡ success (tidyLog n T r)
+  unfolding tidyBytes refuseIf
+  bytes-few h = rw (tidyBytes, le-ltb maxContacts (length (tidyContacts n T r)) h)
+
+-- a buffer that is too short for an answer, and one that holds it
+module _ (bytes buffer : List ℕ) where
+  pub deliver-short : length buffer < length bytes → deliver (success bytes) buffer ≡ record { answer = refused 9 0; buffer = buffer }
+  unfolding deliver
+  deliver-short h = rw (deliver, lt-ltb (length buffer) (length bytes) h)
+
+  pub deliver-fits : length bytes ≤ length buffer → deliver (success bytes) buffer ≡ record { answer = success (length bytes); buffer = bytes ++ drop (length bytes) buffer }
+  unfolding deliver
+  deliver-fits h = rw (deliver, le-ltb (length buffer) (length bytes) h)
+
+-- the bytes of a log with so many contact records
+pub log-size : (count : ℕ) (log : List ℕ) → count ≤ maxContacts → maxLogBytes ≤ length log → length (take (10 + 6 * count) log) ≡ 10 + 6 * count
+log-size count log h k = length-take-le (10 + 6 * count) log (omega arith)
+
+-- what becomes of a tidy log that is encoded in memory of its own, with so many contact records: there are too many of them; the buffer
+-- that is lent is too short; or the buffer holds it
+module _ {n T : ℕ} {ws : List ℕ} {count : ℕ} {log : List ℕ} (e : Encodes n T ws count log) (number : ℕ) (buffer : List ℕ) where
+  pub encoded-many : maxContacts < count → deliver (tidyBytes number n T (adjacent n ws)) buffer ≡ record { answer = refused number 0; buffer = buffer }
+  unfolding deliver
+  encoded-many h = rw (bytes-many number n T (adjacent n ws) (omega (arith, e .number)))
+
+  module _ (h : count ≤ maxContacts) (k : maxLogBytes ≤ length log) where
+    encoded : tidyBytes number n T (adjacent n ws) ≡ success (take (10 + 6 * count) log)
+    encoded = bytes-few number n T (adjacent n ws) (omega (arith, e .number)) ∙ ap success (sym (e .bytes h))
+
+    size : length (take (10 + 6 * count) log) ≡ 10 + 6 * count
+    size = log-size count log h k
+
+    pub encoded-short : length buffer < 10 + 6 * count → deliver (tidyBytes number n T (adjacent n ws)) buffer ≡ record { answer = refused 9 0; buffer = buffer }
+    encoded-short l = rw encoded (deliver-short (take (10 + 6 * count) log) buffer (rw size l))
+
+    pub encoded-whole : 10 + 6 * count ≤ length buffer
+        → deliver (tidyBytes number n T (adjacent n ws)) buffer ≡ record { answer = success (10 + 6 * count); buffer = overwrite 0 (take (10 + 6 * count) log) buffer }
+    unfolding overwrite
+    encoded-whole l = rw encoded (rw (size, zero-add (10 + 6 * count)) (rw size at (deliver-fits (take (10 + 6 * count) log) buffer (rw size l))))

@@ -1,0 +1,138 @@
+-- Laws of the calls write and tidy: what each answers and leaves, in the order of judging.
+use mathlib.Core.Path.{_≡_, refl, sym, ap, _∙_}
+use mathlib.Core.Bool.{Bool, true, false}
+use mathlib.Core.List.{List, _++_}
+use Prim.Native.Nat.{ℕ, _≤_, _<_}
+use lib.Dec.{ltb}
+use lib.ListN.{length, drop}
+use borrow.Author.Tests.{lt-ltb, le-ltb, ltb-true, ltb-false, eq-eqb, eqb-true}
+use Rattle.sets.proofs.Bools.{same-test}
+use Rattle.records.specs.declared.record.Record.{Record}
+use Rattle.records.specs.Limits.{withinLimits, wordsFor}
+use Rattle.records.specs.Outcomes.{Outcome, refused, success, refuseIf, andThen}
+use Rattle.records.specs.Judging.{judge}
+use Rattle.records.specs.Meaning.{badgesOf, ticksOf, inContact}
+use Rattle.records.specs.Verdicts.{Values, valuesOf}
+use Rattle.records.proofs.Outcomes.{refused-success, success-same, refused-same}
+use Rattle.records.proofs.Accepting.{accepted-of}
+use Rattle.log.specs.Days.{adjacent, dayWords, dayOf}
+use Rattle.log.specs.Tidy.{tidyLog}
+use Rattle.log.specs.Buffers.{deliver}
+use Rattle.log.specs.Calls.{Read, readOf, checkOf, tidyBytes, writeOf, tidyBefore9, tidyOf}
+use Rattle.log.proofs.Days.{day-length, neighbours-append, in-day, of-day}
+use Rattle.log.proofs.ReadCall.{read-refused, read-few, read-success}
+use Rattle.log.proofs.TidyForm.{tidy-same}
+
+-- words after the first n×T make no difference
+pub adjacent-append : (n T : ℕ) (ws rest : List ℕ) (t u v : ℕ) → length ws ≡ wordsFor n T → t < T → u < n → adjacent n (ws ++ rest) t u v ≡ adjacent n ws t u v
+unfolding adjacent
+adjacent-append n T ws rest t u v e h k = rw (neighbours-append n T ws rest t u e h k)
+
+-- a day's words say which pairs are in contact, whatever words follow them
+pub adjacent-day : (n T : ℕ) (r : ℕ → ℕ → ℕ → Bool) (rest : List ℕ) (t u v : ℕ) → t < T → u < n → v < n → adjacent n (dayWords n T r ++ rest) t u v ≡ r t u v
+unfolding adjacent
+adjacent-day n T r rest t u v h k l =
+    rw (neighbours-append n T (dayWords n T r) rest t u (day-length n T r) h k)
+    (same-test _ _ (λ e. of-day n T r t u v h k (eqb-true _ _ e) .1) (λ e. eq-eqb _ _ (in-day n T r t u v h k l e)))
+
+-- the tidy log depends on the contacts of n badges in T ticks alone
+pub log-same : (n T : ℕ) (r q : ℕ → ℕ → ℕ → Bool) → ((t u v : ℕ) → t < T → u < n → v < n → r t u v ≡ q t u v) → tidyLog n T r ≡ tidyLog n T q
+unfolding tidyLog
+log-same n T r q e = rw (tidy-same n T r q e)
+
+pub bytes-same : (number n T : ℕ) (r q : ℕ → ℕ → ℕ → Bool) → ((t u v : ℕ) → t < T → u < n → v < n → r t u v ≡ q t u v) → tidyBytes number n T r ≡ tidyBytes number n T q
+unfolding tidyBytes
+bytes-same number n T r q e = rw (tidy-same n T r q e, log-same n T r q e)
+
+-- write: the refusal of the check first, and then as the tidy log is delivered
+module _ (n T : ℕ) (ws buffer : List ℕ) where
+  pub write-refused : (number offset : ℕ) → checkOf n T ws ≡ refused number offset → writeOf n T ws buffer ≡ record { answer = refused number offset; buffer = buffer }
+  unfolding writeOf andThen deliver
+  write-refused number offset e = rw e
+
+  pub write-passed : checkOf n T ws ≡ success tt → writeOf n T ws buffer ≡ deliver (tidyBytes 15 n T (adjacent n ws)) buffer
+  unfolding writeOf andThen
+  write-passed e = rw e
+
+-- tidy's answer before 9: the log's refusal, then 8, then 16
+module _ (log work : List ℕ) where
+  pub before9-refused : (number offset : ℕ) → judge log ≡ refused number offset → tidyBefore9 log work ≡ refused number offset
+  unfolding tidyBefore9 andThen
+  before9-refused number offset e = rw e
+
+  module _ (rs : List Record) (e : judge log ≡ success rs) where
+    pub before9-few : length work < wordsFor (badgesOf rs) (ticksOf rs) → tidyBefore9 log work ≡ refused 8 0
+    unfolding tidyBefore9 andThen refuseIf
+    before9-few h = rw (e, lt-ltb (length work) (wordsFor (badgesOf rs) (ticksOf rs)) h)
+
+    pub before9-enough : wordsFor (badgesOf rs) (ticksOf rs) ≤ length work → tidyBefore9 log work ≡ tidyBytes 16 (badgesOf rs) (ticksOf rs) (inContact rs)
+    unfolding tidyBefore9 andThen refuseIf
+    before9-enough h = rw (e, le-ltb (length work) (wordsFor (badgesOf rs) (ticksOf rs)) h)
+
+-- tidy leaves the words as reading leaves them, and delivers what its answer before 9 came to
+pub tidy-delivers : (log work buffer : List ℕ) {o : Outcome (List ℕ)} → tidyBefore9 log work ≡ o
+    → tidyOf log work buffer ≡ record { answer = deliver o buffer .answer; words = readOf log work .words; buffer = deliver o buffer .buffer }
+unfolding tidyOf
+tidy-delivers log work buffer e = rw e
+
+-- What reading answered decides it. An accepted log with words enough:
+pub record WasRead (log work : List ℕ) (n T m : ℕ) : Type 0 where
+  pub records : List Record
+  pub judged : judge log ≡ success records
+  pub enough : wordsFor (badgesOf records) (ticksOf records) ≤ length work
+  pub values : valuesOf records ≡ record { badges = n; ticks = T; contacts = m }
+
+answer-of : {a b : Read} → a ≡ b → a .answer ≡ b .answer
+answer-of {a} {b} e = ap (λ (x : Read). x .answer) e
+
+pub was-read : (log work : List ℕ) (n T m : ℕ) → readOf log work .answer ≡ success (record { badges = n; ticks = T; contacts = m }) → WasRead log work n T m
+was-read log work n T m e = go (judge log) refl
+  where
+    enough : (rs : List Record) → judge log ≡ success rs → (b : Bool) → ltb (length work) (wordsFor (badgesOf rs) (ticksOf rs)) ≡ b → WasRead log work n T m
+    enough rs f true g = absurd (refused-success (sym (answer-of (read-few log work rs f (ltb-true _ _ g))) ∙ e))
+    enough rs f false g =
+        let h = ltb-false _ _ g in
+        record { records = rs; judged = f; enough = h; values = success-same (sym (answer-of (read-success log work rs f h)) ∙ e) }
+
+    go : (o : Outcome (List Record)) → judge log ≡ o → WasRead log work n T m
+    go (refused k p) f = absurd (refused-success (sym (answer-of (read-refused log work k p f)) ∙ e))
+    go (success rs) f = enough rs f (ltb (length work) (wordsFor (badgesOf rs) (ticksOf rs))) refl
+
+-- what reading refuses, tidy refuses alike
+pub unread-refused : (log work : List ℕ) (number offset : ℕ) → readOf log work .answer ≡ refused number offset → tidyBefore9 log work ≡ refused number offset
+unread-refused log work number offset e = go (judge log) refl
+  where
+    enough : (rs : List Record) → judge log ≡ success rs → (b : Bool) → ltb (length work) (wordsFor (badgesOf rs) (ticksOf rs)) ≡ b → tidyBefore9 log work ≡ refused number offset
+    enough rs f true g =
+        let h = ltb-true _ _ g in
+        before9-few log work rs f h ∙ refused-same (sym (answer-of (read-few log work rs f h)) ∙ e)
+    enough rs f false g = absurd (refused-success (sym e ∙ answer-of (read-success log work rs f (ltb-false _ _ g))))
+
+    go : (o : Outcome (List Record)) → judge log ≡ o → tidyBefore9 log work ≡ refused number offset
+    go (refused k p) f = before9-refused log work k p f ∙ refused-same (sym (answer-of (read-refused log work k p f)) ∙ e)
+    go (success rs) f = enough rs f (ltb (length work) (wordsFor (badgesOf rs) (ticksOf rs))) refl
+
+-- what reading accepts is tidied from the words that it left
+module _ {log work : List ℕ} {n T m : ℕ} (w : WasRead log work n T m) where
+  badges : badgesOf (w .records) ≡ n
+  unfolding valuesOf
+  badges = ap (λ (x : Values). x .badges) (w .values)
+
+  ticks : ticksOf (w .records) ≡ T
+  unfolding valuesOf
+  ticks = ap (λ (x : Values). x .ticks) (w .values)
+
+  pub read-limits : withinLimits n T ≡ true
+  unfolding judge
+  read-limits = rw (← badges, ← ticks) (accepted-of 0 log (w .records) (w .judged) .limits)
+
+  pub read-enough : wordsFor n T ≤ length work
+  read-enough = rw (← badges, ← ticks) (w .enough)
+
+  pub read-bytes : (left : List ℕ) → left ≡ readOf log work .words → tidyBefore9 log work ≡ tidyBytes 16 n T (adjacent n left)
+  unfolding dayOf
+  read-bytes left e =
+      let words : readOf log work .words ≡ dayOf (w .records) ++ drop (wordsFor (badgesOf (w .records)) (ticksOf (w .records))) work = ap (λ (x : Read). x .words) (read-success log work (w .records) (w .judged) (w .enough)) in
+      rw (← badges, ← ticks, e, words)
+      (before9-enough log work (w .records) (w .judged) (w .enough)
+      ∙ bytes-same 16 _ _ _ _ (λ t u v h k l. sym (adjacent-day _ _ (inContact (w .records)) _ t u v h k l)))

@@ -1,0 +1,105 @@
+-- encode_day meets its contract: before badge u of the loop the header and the runs of the badges before u are encoded.
+use borrow.Author.Needs.{needs}
+use native.Mathlib.Omega.{arith}
+use mathlib.Core.Path.{_≡_, refl}
+use Prim.Native.Nat.{_-_, _≤_}
+use lib.ListN.{length}
+use Rattle.records.proofs.WithinLimits.{limits-of}
+use Rattle.log.specs.Days.{adjacent}
+use Rattle.log.specs.Tidy.{concat, rowRuns, tidyContacts}
+use Rattle.log.specs.Writing.{Appends}
+use Rattle.log.proofs.Appending.{appends-none, appends-more, encodes-many, encodes-whole}
+use Rattle.log.proofs.writing.encode_day.Statement.{statement}
+use Rattle.log.proofs.writing.encode_day.Tie as tie
+
+abbrev Inv-loop : tie.InvT-loop
+Inv-loop words n ticks log₀ count₀ u₀ log count u =
+    (u ≤ n) × (length log ≡ length log₀) × Appends (concat u (rowRuns n ticks (adjacent n words))) 0 count log₀ log
+
+abbrev μ-loop : tie.MeasureT-loop
+μ-loop words n ticks log₀ count₀ u₀ log count u = n - u
+
+cast-t11 : tie.Need-cast-t11 Inv-loop μ-loop
+cast-t11 c = let l = limits-of (c .before .before .before .pre .0) in omega (arith, l .few, l .short)
+
+cast-t12 : tie.Need-cast-t12 Inv-loop μ-loop
+cast-t12 c = let l = limits-of (c .before .before .before .pre .0) in omega (arith, l .few, l .short)
+
+put-record-requires : tie.Need-put-record-requires Inv-loop μ-loop
+put-record-requires c κs = search needs
+
+loop-holds : tie.Need-loop-holds Inv-loop μ-loop
+unfolding concat
+loop-holds c = (search needs, refl, appends-none _ _ (omega arith))
+
+append-row-requires : tie.Need-append-row-requires Inv-loop μ-loop
+append-row-requires c κs =
+    let l = limits-of (c .before .before .before .before .before .before .before .before .before .pre .0) in
+    (l .few, l .short, search needs, search needs, omega (arith, c .before .before .loop .inv .2 .number), omega arith)
+
+add-u : tie.Need-add-u Inv-loop μ-loop
+add-u c = search needs
+
+loop-less : tie.Need-loop-less Inv-loop μ-loop
+loop-less c = search needs
+
+loop-again : tie.Need-loop-again Inv-loop μ-loop
+loop-again c =
+    let i = c .before .before .before .before .before .loop in
+    let a = c .before .before .before .before .before .before .before .before .before .before .before .before .args in
+    (search needs, omega arith, appends-more (rowRuns (a .n) (a .ticks) (adjacent (a .n) (a .words .now))) (i .u) (i .inv .2) (c .before .before .append-row .ensures))
+
+-- after the loop the runs of all badges are encoded
+rows : (c : tie.After-loop Inv-loop μ-loop) →
+    let a = c .before .before .before .before .before .before .before .before .args in Appends (tidyContacts (a .n) (a .ticks) (adjacent (a .n) (a .words .now))) 0 (c .before .loop .count) (c .before .before .before .before .put-record .last .0) (c .before .loop .log)
+unfolding tidyContacts
+rows c =
+    let e : c .before .loop .u ≡ c .before .before .before .before .before .before .before .before .args .n = omega (arith, c .loop-test .left) in
+    rw e at (c .before .loop .inv .2)
+
+same-length : tie.Need-same-length Inv-loop μ-loop
+same-length c = search needs
+
+returns : tie.Need-returns Inv-loop μ-loop
+returns c = encodes-many _ _ _ _ _ _ (rows (c .before)) (c .if1 .taken)
+
+mul-put-record : tie.Need-mul-put-record Inv-loop μ-loop
+mul-put-record c = search needs
+
+add-put-record : tie.Need-add-put-record Inv-loop μ-loop
+add-put-record c = search needs
+
+cast-t22 : tie.Need-cast-t22 Inv-loop μ-loop
+cast-t22 c = search needs
+
+put-record-requires-2 : tie.Need-put-record-requires-2 Inv-loop μ-loop
+put-record-requires-2 c κs = search needs
+
+same-length-2 : tie.Need-same-length-2 Inv-loop μ-loop
+same-length-2 c = search needs
+
+returns-2 : tie.Need-returns-2 Inv-loop μ-loop
+returns-2 c = encodes-whole _ _ _ _ _ _ (rows (c .before .before .before .before .before)) _ _ (c .before .before .before .before .if1 .left) (omega arith) (omega arith) (c .before .before .before .before .before .before .before .before .before .put-record .ensures) (c .before .before .put-record2 .ensures)
+
+pub encode-day-spec : {M : Type 1} → statement M
+encode-day-spec =
+    tie.close
+    (tie.spec
+    Inv-loop
+    μ-loop
+    cast-t11
+    cast-t12
+    put-record-requires
+    loop-holds
+    append-row-requires
+    add-u
+    loop-less
+    loop-again
+    same-length
+    returns
+    mul-put-record
+    add-put-record
+    cast-t22
+    put-record-requires-2
+    same-length-2
+    returns-2)

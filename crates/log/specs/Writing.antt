@@ -1,0 +1,37 @@
+-- What the parts of writing leave in the buffer. Private functions cite them; no promise rests on them.
+use mathlib.Core.Path.{_≡_}
+use mathlib.Core.Bool.{Bool, true, false}
+use mathlib.Core.List.{List, _++_}
+use Prim.Native.Nat.{ℕ, zero, suc, _+_, _*_, _≤_, min}
+use lib.ListN.{length, take}
+use Rattle.sets.specs.Sets.{union}
+use Rattle.records.specs.declared.record.Record.{Record}
+use Rattle.records.specs.Limits.{maxContacts}
+use Rattle.records.specs.Records.{encodeAll}
+use Rattle.log.specs.Days.{neighbours, adjacent}
+use Rattle.log.specs.Tidy.{tidyContacts, tidyLog}
+
+-- where the record after so many contact records starts
+abbrev pub offsetAfter : ℕ → ℕ
+offsetAfter count = 4 + 6 * count
+
+-- Contact records are appended to so many that are in a buffer: they are counted, up to one too many, and encoded after the others
+-- as long as there are not too many.
+pub record Appends (cs : List Record) (count count′ : ℕ) (buffer buffer′ : List ℕ) : Type 0 where
+  pub number : count′ ≡ min (suc maxContacts) (count + length cs)
+  pub bytes : count′ ≤ maxContacts → take (offsetAfter count′) buffer′ ≡ take (offsetAfter count) buffer ++ encodeAll cs
+
+-- every badge that u meets in the first T ticks
+unfoldable pub unitedOf : ℕ → ℕ → List ℕ → ℕ → ℕ
+unitedOf n zero ws u = 0
+unitedOf n (suc T) ws u = union (unitedOf n T ws u) (neighbours n ws T u)
+
+-- the first tick of the run that leads up to the tick after t, where that of t begins at a tick
+abbrev pub startAfter : Bool → ℕ → ℕ → ℕ
+startAfter true start t = start
+startAfter false start t = t + 1
+
+-- the number of contact records of a day's tidy log, up to one too many, and the log, as long as there are not too many
+pub record Encodes (n T : ℕ) (ws : List ℕ) (count : ℕ) (buffer : List ℕ) : Type 0 where
+  pub number : count ≡ min (suc maxContacts) (length (tidyContacts n T (adjacent n ws)))
+  pub bytes : count ≤ maxContacts → take (10 + 6 * count) buffer ≡ tidyLog n T (adjacent n ws)

@@ -1,0 +1,95 @@
+// The call that writes a day's words as a tidy log.
+ghost use mathlib.Core.Path.{_≡_};
+ghost use Prim.Native.Nat.{_≤_};
+ghost use lib.ListN.{length};
+ghost use Rattle.records.specs.Limits.{maxLogBytes, wordsFor, withinLimits};
+ghost use Rattle.records.specs.Outcomes.{numberOf, offsetOf};
+ghost use Rattle.log.specs.Days.{adjacent};
+ghost use Rattle.log.specs.Buffers.{deliver};
+ghost use Rattle.log.specs.Writing.{Encodes};
+ghost use Rattle.log.specs.Calls.{tidyBytes, writeOf, writtenOutcome};
+ghost use mathlib.Core.Bool.{true};
+use crate::checking::Checked;
+use crate::checking::check_words;
+use crate::encoding::put;
+use crate::encoding::put_record;
+use crate::pairs::append_row;
+use records::MAX_CONTACTS;
+use records::Record;
+use records::Refusal;
+
+// What came of writing a log into a buffer: the number of bytes written, or a refusal.
+pub enum Written {
+    Bytes(usize),
+    Refused(Refusal),
+}
+
+// Encodes the tidy log of a day's words in a buffer that holds any log, and answers how many contact records it has: 8,001 stands for too
+// many, and the log is then not whole.
+fn encode_day(words: &[u64], n: usize, ticks: usize, log: &mut [u8]) -> usize
+    requires { ⌜ (withinLimits n ticks ≡ true) × (wordsFor n ticks ≤ length (now words)) × (maxLogBytes ≤ length (now log)) ⌝ }
+    ensures { λ r. ⌜ Encodes n ticks (now (words .entry)) r (now (log .exit)) ⌝ }
+{
+    put_record(
+        log,
+        0,
+        Record::Header {
+            badges: n as u8,
+            ticks: ticks as u8,
+        },
+    );
+    let mut count: usize = 0;
+    for u in 0..n {
+        let appended = append_row(words, n, ticks, u, log, count);
+        count = appended;
+    }
+    if MAX_CONTACTS < count {
+        return count;
+    }
+    put_record(
+        log,
+        4 + 6 * count,
+        Record::End {
+            count: count as u32,
+        },
+    );
+    count
+}
+
+// Puts the tidy log of a day's words into the buffer that is lent. The log is made once, in memory of its own, and measured; it is copied
+// if there are not too many contact records and the buffer holds it.
+pub(crate) fn deliver_log(
+    words: &[u64],
+    badges: usize,
+    ticks: usize,
+    too_many: Refusal,
+    buffer: &mut [u8],
+) -> Written
+    requires { ⌜ (withinLimits badges ticks ≡ true) × (wordsFor badges ticks ≤ length (now words)) × (offsetOf «too_many» ≡ 0) ⌝ }
+    ensures answer { λ r. ⌜ writtenOutcome r ≡ deliver (tidyBytes (numberOf «too_many») badges ticks (adjacent badges (now (words .entry)))) (now (buffer .entry)) .answer ⌝ }
+    ensures leaves { λ _. ⌜ now (buffer .exit) ≡ deliver (tidyBytes (numberOf «too_many») badges ticks (adjacent badges (now (words .entry)))) (now (buffer .entry)) .buffer ⌝ }
+{
+    let mut log = [0u8; 48010];
+    let count = encode_day(words, badges, ticks, &mut log);
+    if count > MAX_CONTACTS {
+        return Written::Refused(too_many);
+    }
+    let size = 10 + 6 * count;
+    if buffer.len() < size {
+        return Written::Refused(Refusal::BufferTooShort);
+    }
+    put(buffer, 0, &log[..size]);
+    Written::Bytes(size)
+}
+
+// Writes a day's words as a tidy log into the buffer that is lent, and answers the number of bytes. Refused by 10, 8, 11, 15 and 9, in that
+// order; a refused call changes no byte, and bytes after the answer are never touched.
+pub fn write(words: &[u64], badges: usize, ticks: usize, buffer: &mut [u8]) -> Written
+    ensures answer { λ r. ⌜ writtenOutcome r ≡ writeOf badges ticks (now (words .entry)) (now (buffer .entry)) .answer ⌝ }
+    ensures leaves { λ _. ⌜ now (buffer .exit) ≡ writeOf badges ticks (now (words .entry)) (now (buffer .entry)) .buffer ⌝ }
+{
+    match check_words(words, badges, ticks) {
+        Checked::Refused(refusal) => Written::Refused(refusal),
+        Checked::Day => deliver_log(words, badges, ticks, Refusal::TooManyToWrite, buffer),
+    }
+}
