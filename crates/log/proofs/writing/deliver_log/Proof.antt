@@ -21,7 +21,7 @@ long c = omega arith
 
 -- what is put into the buffer that is lent has as many bytes as the log
 size : (c : tie.Else1) → length (take (10 + 6 * c .before .before .encode-day .result) (Log (c .before .before))) ≡ 10 + 6 * c .before .before .encode-day .result
-size c = log-size _ _ (c .if1 .left) (long (c .before .before))
+size c = log-size (c .before .before .encode-day .result) (Log (c .before .before)) (omega (arith, c .if1 .left)) (long (c .before .before))
 
 slice-aggregate-encode-day : tie.Need-slice-aggregate-encode-day
 slice-aggregate-encode-day c = search needs
