@@ -10,6 +10,9 @@ pub(crate) const CT: usize = 0x4354;
 
 pub(crate) const ED: usize = 0x4544;
 
+// What each byte of a buffer holds before a call.
+pub(crate) const FILLER: u8 = 0xa5;
+
 // Where record k after the header starts.
 pub(crate) fn place(k: usize) -> usize
     requires { ⌜ k ≤ 8001 ⌝ }
@@ -102,4 +105,17 @@ pub(crate) fn put_end(log: &mut [u8], k: usize, count: usize) -> usize
         count / 16777216,
     );
     at + 6
+}
+
+// Whether two slices hold the same bytes.
+pub(crate) fn same_bytes(a: &[u8], b: &[u8]) -> bool {
+    if a.len() != b.len() {
+        return false;
+    }
+    for i in 0..a.len() {
+        if byte_at(a, i) != byte_at(b, i) {
+            return false;
+        }
+    }
+    true
 }

@@ -4,12 +4,12 @@ use crate::words::word_at;
 use crate::words::words_for;
 
 // Whether bit v of a word is set.
-fn has(word: u64, v: usize) -> bool {
+pub(crate) fn has(word: u64, v: usize) -> bool {
     if v < 64 { (word >> v) & 1 == 1 } else { false }
 }
 
 // Where the word of badge v stands, in the tick of word i.
-fn word_of(i: usize, n: usize, v: usize) -> usize
+pub(crate) fn word_of(i: usize, n: usize, v: usize) -> usize
     requires { ⌜ 0 < n ⌝ }
     requires { ⌜ i < 6144 ⌝ }
     requires { ⌜ v < 64 ⌝ }

@@ -5,16 +5,25 @@ mod bytes;
 mod check_cases;
 mod d1;
 mod judge_logs;
+mod judge_tidy;
 mod judge_words;
 mod random;
+mod random_days;
 mod random_logs;
 mod read_cases;
 mod read_changed;
 mod read_many;
 mod read_random;
 mod read_refusals;
+mod runs;
 mod tally;
+mod tidy_cases;
+mod tidy_d1;
+mod tidy_many;
+mod tidy_random;
+mod tidy_refusals;
 mod words;
+mod write_cases;
 
 use tally::Tally;
 use tally::print;
@@ -54,8 +63,27 @@ fn check_families() -> Tally {
     a.plus(b).plus(c).plus(d).plus(e)
 }
 
+fn tidy_families() -> Tally {
+    let a = print(b"tidy and write: D1's logs and words", tidy_d1::same_log());
+    let b = print(
+        b"tidy and write: D1 into 34 bytes and fewer",
+        tidy_d1::rooms(),
+    );
+    let c = print(
+        b"tidy: 8,000 contacts, and a full day",
+        tidy_many::contacts(),
+    );
+    let d = print(b"write: 8,000 runs, and more", tidy_many::runs());
+    let e = print(b"tidy: refusals 1 to 9", tidy_refusals::tidy());
+    let f = print(b"write: refusals 8 to 11, and 15", tidy_refusals::write());
+    let g = print(b"tidy: random logs", tidy_random::logs());
+    let h = print(b"write: random days", tidy_random::days());
+    a.plus(b).plus(c).plus(d).plus(e).plus(f).plus(g).plus(h)
+}
+
 fn main() {
     let read = read_families();
     let check = check_families();
-    print(b"all", read.plus(check));
+    let tidy = tidy_families();
+    print(b"all", read.plus(check).plus(tidy));
 }

@@ -25,19 +25,21 @@ fn put_new(log: &mut [u8], k: usize, n: usize, ticks: usize, state: &mut u64)
     }
 }
 
-// Puts the pair of record k from the other side as record k + 1: from that one's last tick on, or over the same ticks where the day ends.
+// Puts the pair of record k from the other side as record k + 1: from that one's last tick on, or from the tick after it, or over the same
+// ticks where the day ends.
 fn put_piece(log: &mut [u8], k: usize, ticks: usize, state: &mut u64)
     requires { ⌜ k < 8001 ⌝ }
 {
     let at = place(k);
     let a = byte_at(log, at + 2);
     let b = byte_at(log, at + 3);
-    let first = byte_at(log, at + 5);
+    let end = byte_at(log, at + 5);
+    let first = end + draw(state, 2);
     let last = first + draw(state, 3);
     if last < ticks {
         put_contact(log, k + 1, b, a, first, last);
     } else {
-        put_contact(log, k + 1, b, a, byte_at(log, at + 4), first);
+        put_contact(log, k + 1, b, a, byte_at(log, at + 4), end);
     }
 }
 

@@ -11,13 +11,15 @@ use crate::random_logs::put_log;
 use crate::read_cases::by_hand;
 use crate::tally::Tally;
 
-// A log of 4 badges and 3 ticks with so many contacts, some of them the same, and their count.
-fn long_log(log: &mut [u8], contacts: usize)
+// A log of n badges and T ticks with so many contacts, some of them the same, and their count.
+pub(crate) fn long_log(log: &mut [u8], n: usize, ticks: usize, contacts: usize)
+    requires { ⌜ 0 < n ⌝ }
+    requires { ⌜ 0 < ticks ⌝ }
     requires { ⌜ contacts ≤ 8001 ⌝ }
 {
-    put_header(log, 4, 3);
+    put_header(log, n, ticks);
     for k in 0..contacts {
-        put_contact(log, k, k % 4, (k + 1) % 4, k % 3, 2);
+        put_contact(log, k, k % n, (k + 1) % n, k % ticks, ticks - 1);
     }
     put_end(log, contacts, contacts);
 }
@@ -48,7 +50,7 @@ fn cuts_at_limit(t: Tally, log: &[u8]) -> Tally {
 // 8,000 contacts; then with other counts; then with a bad contact as the last of them.
 fn at_limit(tally: Tally) -> Tally {
     let mut log = [0u8; 48100];
-    long_log(&mut log, 8000);
+    long_log(&mut log, 4, 3, 8000);
     let t = cuts_at_limit(tally, &log);
     put_end(&mut log, 8000, 7999);
     let t = refuses(t, &log, 48010, 6, 48004);
@@ -71,7 +73,7 @@ fn cuts_over_limit(t: Tally, log: &[u8]) -> Tally {
 // 8,001 contacts; then with a bad one as the last; then with a bad one before it.
 fn over_limit(tally: Tally) -> Tally {
     let mut log = [0u8; 48100];
-    long_log(&mut log, 8001);
+    long_log(&mut log, 4, 3, 8001);
     let t = cuts_over_limit(tally, &log);
     put_contact(&mut log, 8000, 1, 1, 9, 0);
     let t = refuses(t, &log, 48016, 5, 48004);
@@ -92,7 +94,7 @@ fn put_lower(log: &mut [u8], k: usize, a: usize) -> usize
 }
 
 // A log of 64 badges and 96 ticks, with every two badges in contact all day.
-fn put_full(log: &mut [u8]) {
+pub(crate) fn put_full(log: &mut [u8]) {
     put_header(log, 64, 96);
     let mut k = 0;
     for a in 0..64 {

@@ -30,7 +30,7 @@ pub(crate) fn fill_pattern(words: &mut [u64]) {
 }
 
 // A set of badges with one more, if it is a badge at all.
-fn with_badge(set: u64, v: usize) -> u64 {
+pub(crate) fn with_badge(set: u64, v: usize) -> u64 {
     if v < 64 { set | (1 << v) } else { set }
 }
 
@@ -86,6 +86,14 @@ pub(crate) fn fill_expected(words: &mut [u64], log: &[u8], answer: Answer) {
 // The word at a place, 0 past the end.
 pub(crate) fn word_at(words: &[u64], i: usize) -> u64 {
     if i < words.len() { words[i] } else { 0 }
+}
+
+// The first words; all of them where there are fewer.
+pub(crate) fn first_words(words: &[u64], count: usize) -> &[u64] {
+    if count <= words.len() {
+        return &words[..count];
+    }
+    words
 }
 
 // Sets the word at a place; past the end it sets nothing.

@@ -1,9 +1,11 @@
 -- Laws of the call read: its answer and the words it leaves, in the order of judging.
 use mathlib.Core.Path.{_≡_, refl, sym, ap}
+use mathlib.Core.Bool.{Bool, true, false}
 use mathlib.Core.List.{List, _++_}
 use Prim.Native.Nat.{ℕ, _≤_, _<_}
 use lib.ListN.{length, drop}
-use borrow.Author.Tests.{lt-ltb, le-ltb}
+use lib.Dec.{ltb}
+use borrow.Author.Tests.{lt-ltb, le-ltb, ltb-true, ltb-false}
 use Rattle.records.specs.declared.record.Record.{Record}
 use Rattle.records.specs.Limits.{wordsFor}
 use Rattle.records.specs.Outcomes.{Outcome, refused, success}
@@ -33,6 +35,23 @@ module _ (log ws : List ℕ) (rs : List Record) (e : judge log ≡ success rs) w
   pub read-success : wordsFor (badgesOf rs) (ticksOf rs) ≤ length ws → readOf log ws ≡ left (success (valuesOf rs)) (dayOf rs ++ drop (wordsFor (badgesOf rs) (ticksOf rs)) ws)
   unfolding readOf readJudged
   read-success h = rw (e, readJudged, le-ltb (length ws) (wordsFor (badgesOf rs) (ticksOf rs)) h)
+
+-- one of the three is the case
+pub data Case (log ws : List ℕ) : Type 0 where
+  log-refused : (number offset : ℕ) → judge log ≡ refused number offset → Case log ws
+  words-few : (rs : List Record) → judge log ≡ success rs → length ws < wordsFor (badgesOf rs) (ticksOf rs) → Case log ws
+  words-enough : (rs : List Record) → judge log ≡ success rs → wordsFor (badgesOf rs) (ticksOf rs) ≤ length ws → Case log ws
+
+pub case-of : (log ws : List ℕ) → Case log ws
+case-of log ws = go (judge log) refl
+  where
+    words : (rs : List Record) → judge log ≡ success rs → (b : Bool) → ltb (length ws) (wordsFor (badgesOf rs) (ticksOf rs)) ≡ b → Case log ws
+    words rs f true g = words-few rs f (ltb-true _ _ g)
+    words rs f false g = words-enough rs f (ltb-false _ _ g)
+
+    go : (o : Outcome (List Record)) → judge log ≡ o → Case log ws
+    go (refused number offset) f = log-refused number offset f
+    go (success rs) f = words rs f (ltb (length ws) (wordsFor (badgesOf rs) (ticksOf rs))) refl
 
 -- a verdict says what judging came to
 pub verdict-refused : (o : Outcome (List Record)) (number offset : ℕ) → verdictOf o ≡ refused number offset → o ≡ refused number offset

@@ -1,11 +1,10 @@
 -- Laws of the calls write and tidy: what each answers and leaves, in the order of judging.
-use mathlib.Core.Path.{_≡_, refl, sym, ap, _∙_}
-use mathlib.Core.Bool.{Bool, true, false}
+use mathlib.Core.Path.{_≡_, sym, ap, _∙_}
+use mathlib.Core.Bool.{Bool, true}
 use mathlib.Core.List.{List, _++_}
 use Prim.Native.Nat.{ℕ, _≤_, _<_}
-use lib.Dec.{ltb}
 use lib.ListN.{length, drop}
-use borrow.Author.Tests.{lt-ltb, le-ltb, ltb-true, ltb-false, eq-eqb, eqb-true}
+use borrow.Author.Tests.{lt-ltb, le-ltb, eq-eqb, eqb-true}
 use Rattle.sets.proofs.Bools.{same-test}
 use Rattle.records.specs.declared.record.Record.{Record}
 use Rattle.records.specs.Limits.{withinLimits, wordsFor}
@@ -20,7 +19,7 @@ use Rattle.log.specs.Tidy.{tidyLog}
 use Rattle.log.specs.Buffers.{deliver}
 use Rattle.log.specs.Calls.{Read, readOf, checkOf, tidyBytes, writeOf, tidyBefore9, tidyOf}
 use Rattle.log.proofs.Days.{day-length, neighbours-append, in-day, of-day}
-use Rattle.log.proofs.ReadCall.{read-refused, read-few, read-success}
+use Rattle.log.proofs.ReadCall.{read-refused, read-few, read-success, Case, log-refused, words-few, words-enough, case-of}
 use Rattle.log.proofs.TidyForm.{tidy-same}
 
 -- words after the first n×T make no difference
@@ -86,31 +85,21 @@ answer-of : {a b : Read} → a ≡ b → a .answer ≡ b .answer
 answer-of {a} {b} e = ap (λ (x : Read). x .answer) e
 
 pub was-read : (log work : List ℕ) (n T m : ℕ) → readOf log work .answer ≡ success (record { badges = n; ticks = T; contacts = m }) → WasRead log work n T m
-was-read log work n T m e = go (judge log) refl
+was-read log work n T m e = go (case-of log work)
   where
-    enough : (rs : List Record) → judge log ≡ success rs → (b : Bool) → ltb (length work) (wordsFor (badgesOf rs) (ticksOf rs)) ≡ b → WasRead log work n T m
-    enough rs f true g = absurd (refused-success (sym (answer-of (read-few log work rs f (ltb-true _ _ g))) ∙ e))
-    enough rs f false g =
-        let h = ltb-false _ _ g in
-        record { records = rs; judged = f; enough = h; values = success-same (sym (answer-of (read-success log work rs f h)) ∙ e) }
-
-    go : (o : Outcome (List Record)) → judge log ≡ o → WasRead log work n T m
-    go (refused k p) f = absurd (refused-success (sym (answer-of (read-refused log work k p f)) ∙ e))
-    go (success rs) f = enough rs f (ltb (length work) (wordsFor (badgesOf rs) (ticksOf rs))) refl
+    go : Case log work → WasRead log work n T m
+    go (log-refused k p f) = absurd (refused-success (sym (answer-of (read-refused log work k p f)) ∙ e))
+    go (words-few rs f h) = absurd (refused-success (sym (answer-of (read-few log work rs f h)) ∙ e))
+    go (words-enough rs f h) = record { records = rs; judged = f; enough = h; values = success-same (sym (answer-of (read-success log work rs f h)) ∙ e) }
 
 -- what reading refuses, tidy refuses alike
 pub unread-refused : (log work : List ℕ) (number offset : ℕ) → readOf log work .answer ≡ refused number offset → tidyBefore9 log work ≡ refused number offset
-unread-refused log work number offset e = go (judge log) refl
+unread-refused log work number offset e = go (case-of log work)
   where
-    enough : (rs : List Record) → judge log ≡ success rs → (b : Bool) → ltb (length work) (wordsFor (badgesOf rs) (ticksOf rs)) ≡ b → tidyBefore9 log work ≡ refused number offset
-    enough rs f true g =
-        let h = ltb-true _ _ g in
-        before9-few log work rs f h ∙ refused-same (sym (answer-of (read-few log work rs f h)) ∙ e)
-    enough rs f false g = absurd (refused-success (sym e ∙ answer-of (read-success log work rs f (ltb-false _ _ g))))
-
-    go : (o : Outcome (List Record)) → judge log ≡ o → tidyBefore9 log work ≡ refused number offset
-    go (refused k p) f = before9-refused log work k p f ∙ refused-same (sym (answer-of (read-refused log work k p f)) ∙ e)
-    go (success rs) f = enough rs f (ltb (length work) (wordsFor (badgesOf rs) (ticksOf rs))) refl
+    go : Case log work → tidyBefore9 log work ≡ refused number offset
+    go (log-refused k p f) = before9-refused log work k p f ∙ refused-same (sym (answer-of (read-refused log work k p f)) ∙ e)
+    go (words-few rs f h) = before9-few log work rs f h ∙ refused-same (sym (answer-of (read-few log work rs f h)) ∙ e)
+    go (words-enough rs f h) = absurd (refused-success (sym e ∙ answer-of (read-success log work rs f h)))
 
 -- what reading accepts is tidied from the words that it left
 module _ {log work : List ℕ} {n T m : ℕ} (w : WasRead log work n T m) where

@@ -19,14 +19,14 @@ use Rattle.records.specs.Records.{fieldsOf, encode, encodeAll}
 use Rattle.records.specs.Outcomes.{Outcome, refused}
 use Rattle.records.specs.Judging.{validContact}
 use Rattle.records.specs.Meaning.{covers, inContact}
-use Rattle.records.specs.Logs.{Mem, logRecords, IsLog, Met}
+use Rattle.records.specs.Logs.{Mem, logRecords, IsLog}
 use Rattle.records.proofs.Outcomes.{refused-success, success-same}
-use Rattle.records.proofs.Theorems.{met-in, met-of}
 use Rattle.log.specs.Days.{neighbours}
 use Rattle.log.specs.Tidy.{concat, keepIf, runStart, runEnds, runAt, runsOf, rowRuns, tidyContacts, tidyLog}
 use Rattle.log.specs.Calls.{Read, Tidied}
 use Rattle.log.specs.Tidying.{SameMeaning, HasTidied, FoundShort, Tidies}
-use Rattle.log.proofs.TidyForm.{tidy-form, tidy-unique, tidy-meet}
+use Rattle.log.proofs.TidyForm.{tidy-unique}
+use Rattle.log.proofs.TidyTheorems.{log-runs}
 use Rattle.log.proofs.SmallLogs.{meeting, never, once, twice, bytesOf, never-log, once-log, twice-log, two, met}
 
 -- memory of so many bytes or words
@@ -80,8 +80,7 @@ pub promised-bytes : {read : List ℕ → List ℕ → Read} {tidy : List ℕ �
 unfolding tidyLog
 promised-bytes p log n T cts l =
     let f = p .form log n T cts l in
-    f .log .bytes ∙ ap (λ (cs : List Record). encodeAll (logRecords n T cs)) (tidy-unique (f .runs) _ (f .tidy)
-    (tidy-meet n T _ (Met cts) _ (λ t u v h k m. (met-of n T cts t u v, met-in n T cts t u v)) (tidy-form n T (inContact (logRecords n T cts)))))
+    f .log .bytes ∙ ap (λ (cs : List Record). encodeAll (logRecords n T cs)) (tidy-unique (f .runs) _ (f .tidy) (log-runs n T cts))
 
 -- all that the examples compute with
 computing : ℕ

@@ -22,7 +22,7 @@ use Rattle.records.proofs.Numbers.{judge-number}
 use Rattle.records.proofs.Meaning.{contact-swap}
 use Rattle.records.proofs.Theorems.{log-accepted, met-in, met-of, met-below, met-apart}
 use Rattle.log.specs.Days.{dayWords}
-use Rattle.log.specs.Tidy.{tidyContacts, tidyLog}
+use Rattle.log.specs.Tidy.{IsTidy, tidyContacts, tidyLog}
 use Rattle.log.specs.Buffers.{Delivered, deliver}
 use Rattle.log.specs.Calls.{Read, readOf, tidyBefore9, Tidied, tidyOf}
 use Rattle.log.specs.Reading.{HoldsDay}
@@ -32,6 +32,7 @@ use Rattle.log.proofs.TidyForm.{tidy-form, tidy-meet, tidy-valid, tidy-
 use Rattle.log.proofs.TidyCount.{tidy-count}
 use Rattle.log.proofs.Delivering.{bytes-few, deliver-short, deliver-fits}
 use Rattle.log.proofs.TidyCall.{log-same, before9-refused, before9-few, before9-enough, tidy-delivers}
+use Rattle.log.proofs.ReadCall.{Case, log-refused, words-few, words-enough, case-of}
 use Rattle.log.proofs.Theorems.{read-log, reads}
 
 -- the same meaning, one way round and the other, and of three logs
@@ -73,6 +74,10 @@ tidied-is : (log : List ℕ) (n T : ℕ) (cts : List Record) → IsLog log n T c
 unfolding tidiedOf tidiedJudged logRecords badgesOf ticksOf
 tidied-is log n T cts l = ap tidiedJudged (log-accepted log n T cts l)
 
+-- the tidy list of a log is that of its contacts
+pub log-runs : (n T : ℕ) (cts : List Record) → IsTidy n T (Met cts) (tidyContacts n T (inContact (logRecords n T cts)))
+log-runs n T cts = tidy-meet n T _ (Met cts) _ (λ t u v h k m. (met-of n T cts t u v, met-in n T cts t u v)) (tidy-form n T (inContact (logRecords n T cts)))
+
 module _ (log : List ℕ) (n T : ℕ) (cts : List Record) (l : IsLog log n T cts) where
   abbrev runs : List Record
   runs = tidyContacts n T (inContact (logRecords n T cts))
@@ -92,7 +97,7 @@ module _ (log : List ℕ) (n T : ℕ) (cts : List Record) (l : IsLog log n T cts
   tidied-form = record {
     runs = runs;
     log = tidied-log;
-    tidy = tidy-meet n T _ (Met cts) runs (λ t u v h k m. (met-of n T cts t u v, met-in n T cts t u v)) (tidy-form n T (inContact (logRecords n T cts)));
+    tidy = log-runs n T cts;
     fewer = tidy-count n T cts (l .valid);
   }
 
@@ -198,7 +203,7 @@ delivered-16 bytes buffer e = go (ltb (length buffer) (length bytes)) refl
 
 pub tidy-never-16 : (log work buffer : List ℕ) → tidyOf log work buffer .answer ≡ refused 16 0 → ⊥
 unfolding tidyOf judge deliver
-tidy-never-16 log work buffer e = go (judge log) refl
+tidy-never-16 log work buffer e = go (case-of log work)
   where
     answer : {o : Outcome (List ℕ)} → tidyBefore9 log work ≡ o → deliver o buffer .answer ≡ refused 16 0
     answer f = ap (λ (x : Outcome (List ℕ)). deliver x buffer .answer) (sym f) ∙ e
@@ -208,10 +213,8 @@ tidy-never-16 log work buffer e = go (judge log) refl
         let a = accepted-of 0 log rs f in
         le-trans (subst (λ (x : List Record). length (tidyContacts (badgesOf rs) (ticksOf rs) (inContact x)) ≤ length (a .cts)) (sym (a .records)) (tidy-count _ _ (a .cts) (a .valid))) (a .few)
 
-    enough : (rs : List Record) → judge log ≡ success rs → (b : Bool) → ltb (length work) (wordsFor (badgesOf rs) (ticksOf rs)) ≡ b → ⊥
-    enough rs f true g = let n = refused-number (answer (before9-few log work rs f (ltb-true _ _ g))) in omega arith
-    enough rs f false g = delivered-16 (tidyLog (badgesOf rs) (ticksOf rs) (inContact rs)) buffer (answer (before9-enough log work rs f (ltb-false _ _ g) ∙ bytes-few 16 _ _ (inContact rs) (few rs f)))
-
-    go : (o : Outcome (List Record)) → judge log ≡ o → ⊥
-    go (refused k p) f = let n = refused-number (answer (before9-refused log work k p f)) in omega (arith, judge-number log k p f)
-    go (success rs) f = enough rs f (ltb (length work) (wordsFor (badgesOf rs) (ticksOf rs))) refl
+    go : Case log work → ⊥
+    go (log-refused k p f) = let n = refused-number (answer (before9-refused log work k p f)) in omega (arith, judge-number log k p f)
+    go (words-few rs f h) = let n = refused-number (answer (before9-few log work rs f h)) in omega arith
+    go (words-enough rs f h) =
+        delivered-16 (tidyLog (badgesOf rs) (ticksOf rs) (inContact rs)) buffer (answer (before9-enough log work rs f h ∙ bytes-few 16 _ _ (inContact rs) (few rs f)))

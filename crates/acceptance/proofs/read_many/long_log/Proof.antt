@@ -7,10 +7,10 @@ use Rattle.acceptance.proofs.read_many.long_log.Statement.{statement}
 use Rattle.acceptance.proofs.read_many.long_log.Tie as tie
 
 abbrev Inv-loop : tie.InvT-loop
-Inv-loop log₀ contacts k₀ log k = length log ≡ length log₀
+Inv-loop log₀ n ticks contacts k₀ log k = length log ≡ length log₀
 
 abbrev μ-loop : tie.MeasureT-loop
-μ-loop log₀ contacts k₀ log k = contacts - k
+μ-loop log₀ n ticks contacts k₀ log k = contacts - k
 
 put-header-requires : tie.Need-put-header-requires Inv-loop μ-loop
 put-header-requires c κs = search needs
@@ -18,8 +18,20 @@ put-header-requires c κs = search needs
 loop-holds : tie.Need-loop-holds Inv-loop μ-loop
 loop-holds c = search needs
 
+rem-put-contact : tie.Need-rem-put-contact Inv-loop μ-loop
+rem-put-contact c = search needs
+
 add-put-contact : tie.Need-add-put-contact Inv-loop μ-loop
 add-put-contact c = search needs
+
+rem-put-contact-2 : tie.Need-rem-put-contact-2 Inv-loop μ-loop
+rem-put-contact-2 c = search needs
+
+rem-put-contact-3 : tie.Need-rem-put-contact-3 Inv-loop μ-loop
+rem-put-contact-3 c = search needs
+
+sub-put-contact : tie.Need-sub-put-contact Inv-loop μ-loop
+sub-put-contact c = search needs
 
 put-contact-requires : tie.Need-put-contact-requires Inv-loop μ-loop
 put-contact-requires c κs = search needs
@@ -50,7 +62,11 @@ long-log-spec =
     μ-loop
     put-header-requires
     loop-holds
+    rem-put-contact
     add-put-contact
+    rem-put-contact-2
+    rem-put-contact-3
+    sub-put-contact
     put-contact-requires
     add-k
     loop-less

@@ -1,0 +1,18 @@
+-- `words::first_words` is safe: so many words are there.
+use mathlib.Core.Path.{sym}
+use lib.Seq.{length-take-le}
+use borrow.Author.Needs.{needs}
+use Rattle.acceptance.proofs.words.first_words.Statement.{statement}
+use Rattle.acceptance.proofs.words.first_words.Tie as tie
+
+slice-aggregate-result : tie.Need-slice-aggregate-result
+slice-aggregate-result c = sym (length-take-le _ _ (c .before .if1 .taken))
+
+returns : tie.Need-returns
+returns c = search needs
+
+returns-2 : tie.Need-returns-2
+returns-2 c = search needs
+
+pub first-words-spec : {M : Type 1} → statement M
+first-words-spec = tie.close (tie.spec slice-aggregate-result returns returns-2)

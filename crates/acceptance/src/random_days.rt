@@ -1,0 +1,50 @@
+// Days made bit by bit: random ones, and ones with a given number of runs.
+ghost use Prim.Native.Nat.{_≤_, _<_};
+use crate::judge_words::word_of;
+use crate::random::draw;
+use crate::words::set_word;
+use crate::words::with_badge;
+use crate::words::word_at;
+use crate::words::words_for;
+
+// Sets bit v of word i and its mirror.
+fn set_pair(words: &mut [u64], n: usize, i: usize, v: usize)
+    requires { ⌜ 0 < n ⌝ }
+    requires { ⌜ i < 6144 ⌝ }
+    requires { ⌜ v < 64 ⌝ }
+{
+    let j = word_of(i, n, v);
+    set_word(words, i, with_badge(word_at(words, i), v));
+    set_word(words, j, with_badge(word_at(words, j), i % n));
+}
+
+// Puts two badges in contact, in some tick, with a chance of so many in eight. Bit v of word i stands for them if v is the smaller.
+fn draw_pair(words: &mut [u64], n: usize, i: usize, v: usize, chance: usize, state: &mut u64)
+    requires { ⌜ 0 < n ⌝ }
+    requires { ⌜ i < 6144 ⌝ }
+    requires { ⌜ v < 64 ⌝ }
+{
+    if v < i % n && draw(state, 8) < chance {
+        set_pair(words, n, i, v);
+    }
+}
+
+// A random day of n badges and T ticks, in words that are zero: each contact has a chance of so many in eight.
+pub(crate) fn fill_random(words: &mut [u64], n: usize, ticks: usize, chance: usize, state: &mut u64)
+    requires { ⌜ 0 < n ⌝ }
+{
+    for bit in 0..words_for(n, ticks) * 64 {
+        draw_pair(words, n, bit / 64, bit % 64, chance, state);
+    }
+}
+
+// The first so many of runs that have one tick each, none of them touching, in a day of 64 badges and 96 ticks: a pair has 48, and 56 of
+// the pairs have the same smaller badge.
+pub(crate) fn fill_runs(words: &mut [u64], runs: usize)
+    requires { ⌜ runs ≤ 20000 ⌝ }
+{
+    for run in 0..runs {
+        let pair = run / 48;
+        set_pair(words, 64, run % 48 * 128 + pair / 56, 8 + pair % 56);
+    }
+}

@@ -1,0 +1,28 @@
+// A case of write: the answer and every byte of the buffer.
+use crate::answer;
+use crate::answer::Answer;
+use crate::answer::DIFFERENT;
+use crate::bytes::FILLER;
+use crate::bytes::same_bytes;
+use crate::judge_tidy::judge_write;
+
+// What write answers to words, if the second judge gives the same answer, and both leave the same bytes. Otherwise a refusal by a
+// number that no call gives.
+fn compared(words: &[u64], n: usize, ticks: usize, buffer: &mut [u8], wanted: &mut [u8]) -> Answer {
+    let got = answer::write(words, n, ticks, buffer);
+    let expected = judge_write(words, n, ticks, wanted);
+    if got.same(expected) && same_bytes(buffer, wanted) {
+        return got;
+    }
+    Answer::refused(DIFFERENT, 0)
+}
+
+// The same, with so many bytes lent. More than there are is a mistake of the case's own, and counts as different.
+pub(crate) fn agreed(words: &[u64], n: usize, ticks: usize, room: usize) -> Answer {
+    let mut buffer = [FILLER; 48100];
+    let mut wanted = [FILLER; 48100];
+    if 48100 < room {
+        return Answer::refused(DIFFERENT, 0);
+    }
+    compared(words, n, ticks, &mut buffer[..room], &mut wanted[..room])
+}
