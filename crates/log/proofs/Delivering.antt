@@ -1,6 +1,6 @@
 -- Laws of bytes that are laid over a buffer, and of the tidy log that is put into the buffer that is lent.
 use mathlib.Core.Path.{_≡_, sym, ap, _∙_}
-use mathlib.Core.Bool.{Bool}
+use mathlib.Core.Bool.{Bool, true}
 use mathlib.Core.List.{List, _++_, append-assoc}
 use Prim.Native.Nat.{ℕ, _+_, _*_, _≤_, _<_}
 use native.Mathlib.Nat.{zero-add}
@@ -8,13 +8,18 @@ use native.Mathlib.Omega.{arith}
 use lib.ListN.{length, take, drop}
 use lib.Seq.{paste, take-length, take-paste, length-take-le}
 use borrow.Author.Tests.{lt-ltb, le-ltb}
-use Rattle.records.specs.Limits.{maxContacts, maxLogBytes}
+use Rattle.records.specs.Limits.{maxContacts, maxLogBytes, withinLimits, wordsFor}
 use Rattle.records.specs.Outcomes.{refused, success, refuseIf}
+use Rattle.records.proofs.WithinLimits.{limits-of}
 use Rattle.log.specs.Buffers.{deliver, overwrite}
 use Rattle.log.specs.Days.{adjacent}
 use Rattle.log.specs.Tidy.{tidyContacts, tidyLog}
-use Rattle.log.specs.Writing.{Encodes}
+use Rattle.log.specs.Writing.{Writable, Encodes}
 use Rattle.log.specs.Calls.{tidyBytes}
+
+-- words enough for n and T within their limits
+pub writable : {n T : ℕ} {ws : List ℕ} → withinLimits n T ≡ true → wordsFor n T ≤ length ws → Writable n T ws
+writable e h = let l = limits-of e in record { few = l .few; short = l .short; enough = h }
 
 -- bytes laid over a buffer are a copy of all of them
 pub overwrite-paste : (at : ℕ) (bytes buffer : List ℕ) → overwrite at bytes buffer ≡ paste buffer at bytes (length bytes)

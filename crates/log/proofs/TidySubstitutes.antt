@@ -66,6 +66,14 @@ fixed-log read answer left words tidied p = List·Memᴰ·not-nil (same .contact
     same : SameMeaning 2 1 never 2 1 once
     same = p .decides (bytesOf never) 2 1 never (bytesOf once) 2 1 once never-log once-log .0 equal
 
+-- Refusing all logs, with whatever number, offset, words and buffer.
+pub tidy-refusing-all : (read : List ℕ → List ℕ → Read) (number offset : List ℕ → List ℕ → List ℕ → ℕ) (words left : List ℕ → List ℕ → List ℕ → List ℕ) (tidied : List ℕ → List ℕ)
+    → Tidies read (λ log work lent. record { answer = refused (number log work lent) (offset log work lent); words = words log work lent; buffer = left log work lent }) tidied → ⊥
+unfolding two
+tidy-refusing-all read number offset words left tidied p =
+    let h : length (tidied (bytesOf never)) ≤ length (zeros (length (tidied (bytesOf never)))) = omega (arith, zeros-length (length (tidied (bytesOf never)))) in
+    refused-success (p .succeeds (bytesOf never) two (zeros (length (tidied (bytesOf never)))) 2 1 never never-log (omega arith) h .answers)
+
 -- Leaving the work words untouched, with whatever answer and buffer.
 pub tidy-words-untouched : (read : List ℕ → List ℕ → Read) (answer : List ℕ → List ℕ → List ℕ → Outcome ℕ) (left : List ℕ → List ℕ → List ℕ → List ℕ) (tidied : List ℕ → List ℕ)
     → Tidies read (λ log work lent. record { answer = answer log work lent; words = work; buffer = left log work lent }) tidied → ⊥

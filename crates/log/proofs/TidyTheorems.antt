@@ -190,6 +190,12 @@ tidies = record {
   again = tidy-again;
 }
 
+-- What the work words hold makes no difference to the answer and the buffer, only how many there are.
+pub tidy-work : (log work work′ buffer : List ℕ) → length work ≡ length work′
+    → (tidyOf log work buffer .answer ≡ tidyOf log work′ buffer .answer) × (tidyOf log work buffer .buffer ≡ tidyOf log work′ buffer .buffer)
+unfolding tidyOf tidyBefore9
+tidy-work log work work′ buffer e = (rw e, rw e)
+
 -- Tidy is never refused by 16: joining runs makes no more contact records than came in.
 delivered-16 : (bytes buffer : List ℕ) → deliver (success bytes) buffer .answer ≡ refused 16 0 → ⊥
 delivered-16 bytes buffer e = go (ltb (length buffer) (length bytes)) refl

@@ -6,10 +6,21 @@ use Prim.Native.Nat.{ℕ, zero, suc, _+_, _*_, _≤_, min}
 use lib.ListN.{length, take}
 use Rattle.sets.specs.Sets.{union}
 use Rattle.records.specs.declared.record.Record.{Record}
-use Rattle.records.specs.Limits.{maxContacts}
+use Rattle.records.specs.Limits.{maxBadges, maxTicks, maxContacts, maxLogBytes, wordsFor}
 use Rattle.records.specs.Records.{encodeAll}
 use Rattle.log.specs.Days.{neighbours, adjacent}
 use Rattle.log.specs.Tidy.{tidyContacts, tidyLog}
+
+-- words that a log can be made of: n and T are no more than their limits, and there are words enough
+pub record Writable (n T : ℕ) (ws : List ℕ) : Type 0 where
+  pub few : n ≤ maxBadges
+  pub short : T ≤ maxTicks
+  pub enough : wordsFor n T ≤ length ws
+
+-- a buffer that holds any log, and the number of contact records in it, counted up to one too many
+pub record Roomy (count : ℕ) (buffer : List ℕ) : Type 0 where
+  pub counted : count ≤ suc maxContacts
+  pub long : maxLogBytes ≤ length buffer
 
 -- where the record after so many contact records starts
 abbrev pub offsetAfter : ℕ → ℕ

@@ -1,12 +1,11 @@
 // Records put into a buffer in their bytes.
 ghost use mathlib.Core.Path.{_≡_};
 ghost use mathlib.Core.List.{_∷_, []};
-ghost use Prim.Native.Nat.{_+_, _≤_, suc};
+ghost use Prim.Native.Nat.{_+_, _≤_};
 ghost use lib.ListN.{length};
-ghost use Rattle.records.specs.Limits.{maxContacts, maxLogBytes};
 ghost use Rattle.records.specs.Records.{kindOf, sizeOf, encode};
 ghost use Rattle.log.specs.Buffers.{overwrite};
-ghost use Rattle.log.specs.Writing.{Appends};
+ghost use Rattle.log.specs.Writing.{Appends, Roomy};
 use records::MAX_CONTACTS;
 use records::Record;
 
@@ -60,7 +59,7 @@ pub(crate) fn append_contact(
     first: u8,
     last: u8,
 ) -> usize
-    requires { ⌜ (count ≤ suc maxContacts) × (maxLogBytes ≤ length (now buffer)) ⌝ }
+    requires { ⌜ Roomy count (now buffer) ⌝ }
     ensures { λ r. ⌜ Appends (Record.Contact a b first last ∷ []) count r (now (buffer .entry)) (now (buffer .exit)) ⌝ }
 {
     if MAX_CONTACTS <= count {

@@ -1,15 +1,15 @@
 // The runs of a day's pairs, appended to a log's buffer one after the other.
 ghost use mathlib.Core.Path.{_≡_};
 ghost use mathlib.Core.List.{_∷_, []};
-ghost use Prim.Native.Nat.{_+_, _≤_, _<_, suc};
+ghost use Prim.Native.Nat.{_≤_, _<_};
 ghost use lib.Dec.{ltb};
 ghost use lib.ListN.{length};
 ghost use Rattle.sets.specs.Bools.{_and_, isnt};
 ghost use Rattle.sets.specs.Members.{members};
-ghost use Rattle.records.specs.Limits.{maxBadges, maxTicks, maxContacts, maxLogBytes, wordsFor};
+ghost use Rattle.records.specs.Limits.{maxBadges, maxTicks, wordsFor};
 ghost use Rattle.log.specs.Days.{adjacent};
 ghost use Rattle.log.specs.Tidy.{keepIf, runsOf, rowRuns};
-ghost use Rattle.log.specs.Writing.{Appends, unitedOf, startAfter};
+ghost use Rattle.log.specs.Writing.{Writable, Roomy, Appends, unitedOf, startAfter};
 use crate::encoding::append_contact;
 use records::Record;
 use sets::BadgeSet;
@@ -36,7 +36,7 @@ fn append_run(
     first: usize,
     last: usize,
 ) -> usize
-    requires { ⌜ (count ≤ suc maxContacts) × (maxLogBytes ≤ length (now buffer)) × (u < maxBadges) × (v < maxBadges) × (first ≤ last) × (last < maxTicks) ⌝ }
+    requires { ⌜ Roomy count (now buffer) × (u < maxBadges) × (v < maxBadges) × (first ≤ last) × (last < maxTicks) ⌝ }
     ensures { λ r. ⌜ Appends (keepIf (met and isnt after) (Record.Contact u v first last ∷ [])) count r (now (buffer .entry)) (now (buffer .exit)) ⌝ }
 {
     if !met {
@@ -70,7 +70,7 @@ fn append_pair(
     buffer: &mut [u8],
     count: usize,
 ) -> usize
-    requires { ⌜ (n ≤ maxBadges) × (ticks ≤ maxTicks) × (wordsFor n ticks ≤ length (now words)) × (u < v) × (v < n) × (members united ≡ unitedOf n ticks (now words) u) × (count ≤ suc maxContacts) × (maxLogBytes ≤ length (now buffer)) ⌝ }
+    requires { ⌜ Writable n ticks (now words) × Roomy count (now buffer) × (u < v) × (v < n) × (members united ≡ unitedOf n ticks (now words) u) ⌝ }
     ensures { λ r. ⌜ Appends (runsOf ticks (λ t. adjacent n (now (words .entry)) t u v) u v) count r (now (buffer .entry)) (now (buffer .exit)) ⌝ }
 {
     if !united.has(v) {
@@ -111,7 +111,7 @@ pub(crate) fn append_row(
     buffer: &mut [u8],
     count: usize,
 ) -> usize
-    requires { ⌜ (n ≤ maxBadges) × (ticks ≤ maxTicks) × (wordsFor n ticks ≤ length (now words)) × (u < n) × (count ≤ suc maxContacts) × (maxLogBytes ≤ length (now buffer)) ⌝ }
+    requires { ⌜ Writable n ticks (now words) × Roomy count (now buffer) × (u < n) ⌝ }
     ensures { λ r. ⌜ Appends (rowRuns n ticks (adjacent n (now (words .entry))) u) count r (now (buffer .entry)) (now (buffer .exit)) ⌝ }
 {
     let united = unite(words, n, ticks, u);

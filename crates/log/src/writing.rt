@@ -2,13 +2,12 @@
 ghost use mathlib.Core.Path.{_≡_};
 ghost use Prim.Native.Nat.{_≤_};
 ghost use lib.ListN.{length};
-ghost use Rattle.records.specs.Limits.{maxLogBytes, wordsFor, withinLimits};
+ghost use Rattle.records.specs.Limits.{maxLogBytes};
 ghost use Rattle.records.specs.Outcomes.{numberOf, offsetOf};
 ghost use Rattle.log.specs.Days.{adjacent};
 ghost use Rattle.log.specs.Buffers.{deliver};
-ghost use Rattle.log.specs.Writing.{Encodes};
+ghost use Rattle.log.specs.Writing.{Writable, Encodes};
 ghost use Rattle.log.specs.Calls.{tidyBytes, writeOf, writtenOutcome};
-ghost use mathlib.Core.Bool.{true};
 use crate::checking::Checked;
 use crate::checking::check_words;
 use crate::encoding::put;
@@ -27,7 +26,7 @@ pub enum Written {
 // Encodes the tidy log of a day's words in a buffer that holds any log, and answers how many contact records it has: 8,001 stands for too
 // many, and the log is then not whole.
 fn encode_day(words: &[u64], n: usize, ticks: usize, log: &mut [u8]) -> usize
-    requires { ⌜ (withinLimits n ticks ≡ true) × (wordsFor n ticks ≤ length (now words)) × (maxLogBytes ≤ length (now log)) ⌝ }
+    requires { ⌜ Writable n ticks (now words) × (maxLogBytes ≤ length (now log)) ⌝ }
     ensures { λ r. ⌜ Encodes n ticks (now (words .entry)) r (now (log .exit)) ⌝ }
 {
     put_record(
@@ -65,7 +64,7 @@ pub(crate) fn deliver_log(
     too_many: Refusal,
     buffer: &mut [u8],
 ) -> Written
-    requires { ⌜ (withinLimits badges ticks ≡ true) × (wordsFor badges ticks ≤ length (now words)) × (offsetOf «too_many» ≡ 0) ⌝ }
+    requires { ⌜ Writable badges ticks (now words) × (offsetOf «too_many» ≡ 0) ⌝ }
     ensures answer { λ r. ⌜ writtenOutcome r ≡ deliver (tidyBytes (numberOf «too_many») badges ticks (adjacent badges (now (words .entry)))) (now (buffer .entry)) .answer ⌝ }
     ensures leaves { λ _. ⌜ now (buffer .exit) ≡ deliver (tidyBytes (numberOf «too_many») badges ticks (adjacent badges (now (words .entry)))) (now (buffer .entry)) .buffer ⌝ }
 {

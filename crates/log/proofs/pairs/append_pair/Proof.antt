@@ -33,7 +33,7 @@ returns : tie.Need-returns Inv-loop μ-loop
 returns c =
     let s = c .before .before .before .before in
     let a = s .args in
-    let out : has (unitedOf (a .n) (a .ticks) (a .words .now) (a .u)) (a .v) ≡ false = ap (λ (x : ℕ). has x (a .v)) (sym (s .pre .5)) ∙ sym (c .before .has .ensures) ∙ not-true _ (c .if1 .taken) in
+    let out : has (unitedOf (a .n) (a .ticks) (a .words .now) (a .u)) (a .v) ≡ false = ap (λ (x : ℕ). has x (a .v)) (sym (s .pre .4)) ∙ sym (c .before .has .ensures) ∙ not-true _ (c .if1 .taken) in
     rw (never-met (a .n) (a .ticks) (a .words .now) (a .u) (a .v) out) (appends-none _ _ (omega arith))
 
 meets-requires : tie.Need-meets-requires Inv-loop μ-loop
@@ -53,7 +53,7 @@ append-run-requires : tie.Need-append-run-requires Inv-loop μ-loop
 append-run-requires c κs =
     let i = c .before .before .before .loop in
     let a = c .before .before .before .before .before .before .before .before .before .args in
-    (omega (arith, i .inv .4 .number), omega arith, omega arith, omega arith, omega (arith, start-le (λ t. adjacent (a .n) (a .words .now) t (a .u) (a .v)) (i .t)), omega arith)
+    (record { counted = omega (arith, i .inv .4 .number); long = omega arith }, omega arith, omega arith, omega (arith, start-le (λ t. adjacent (a .n) (a .words .now) t (a .u) (a .v)) (i .t)), omega arith)
 
 start-after-requires : tie.Need-start-after-requires Inv-loop μ-loop
 start-after-requires c κs = search needs

@@ -30,8 +30,13 @@ loop-holds c =
     (search needs, search needs, refl, rw (row-none (a .ticks) (adjacent (a .n) (a .words .now)) (a .u)) (appends-none _ _ (omega arith)))
 
 append-pair-requires : tie.Need-append-pair-requires Inv-loop μ-loop
-append-pair-requires c κs =
-    (search needs, search needs, search needs, search needs, search needs, c .before .before .before .unite .ensures, omega (arith, c .before .before .loop .inv .3 .number), omega arith)
+append-pair-requires c κs = (
+  record { few = search needs; short = search needs; enough = search needs },
+  record { counted = omega (arith, c .before .before .loop .inv .3 .number); long = omega arith },
+  search needs,
+  search needs,
+  c .before .before .before .unite .ensures,
+)
 
 add-v : tie.Need-add-v Inv-loop μ-loop
 add-v c = search needs

@@ -31,7 +31,7 @@ cast-append-contact-4 : tie.Need-cast-append-contact-4
 cast-append-contact-4 c = search needs
 
 append-contact-requires : tie.Need-append-contact-requires
-append-contact-requires c κs = search needs
+append-contact-requires c κs = record { counted = search needs; long = search needs }
 
 same-length : tie.Need-same-length
 same-length c = search needs

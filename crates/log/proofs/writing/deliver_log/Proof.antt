@@ -33,7 +33,7 @@ returns : tie.Need-returns
 returns c =
     let s = c .before .before .before .before .before .before in
     let e = encoded-many (c .before .before .encode-day .ensures) (numberOf (s .args .too-many)) (s .args .buffer .now) (c .if1 .taken) in
-    (rw (e, s .pre .2), rw e)
+    (rw (e, s .pre .1), rw e)
 
 mul-size : tie.Need-mul-size
 mul-size c = search needs

@@ -4,7 +4,6 @@ use native.Mathlib.Omega.{arith}
 use mathlib.Core.Path.{_≡_, refl}
 use Prim.Native.Nat.{_-_, _≤_}
 use lib.ListN.{length}
-use Rattle.records.proofs.WithinLimits.{limits-of}
 use Rattle.log.specs.Days.{adjacent}
 use Rattle.log.specs.Tidy.{concat, rowRuns, tidyContacts}
 use Rattle.log.specs.Writing.{Appends}
@@ -20,10 +19,10 @@ abbrev μ-loop : tie.MeasureT-loop
 μ-loop words n ticks log₀ count₀ u₀ log count u = n - u
 
 cast-t11 : tie.Need-cast-t11 Inv-loop μ-loop
-cast-t11 c = let l = limits-of (c .before .before .before .pre .0) in omega (arith, l .few, l .short)
+cast-t11 c = search needs
 
 cast-t12 : tie.Need-cast-t12 Inv-loop μ-loop
-cast-t12 c = let l = limits-of (c .before .before .before .pre .0) in omega (arith, l .few, l .short)
+cast-t12 c = search needs
 
 put-record-requires : tie.Need-put-record-requires Inv-loop μ-loop
 put-record-requires c κs = search needs
@@ -34,8 +33,7 @@ loop-holds c = (search needs, refl, appends-none _ _ (omega arith))
 
 append-row-requires : tie.Need-append-row-requires Inv-loop μ-loop
 append-row-requires c κs =
-    let l = limits-of (c .before .before .before .before .before .before .before .before .before .pre .0) in
-    (l .few, l .short, search needs, search needs, omega (arith, c .before .before .loop .inv .2 .number), omega arith)
+    (c .before .before .before .before .before .before .before .before .before .pre .0, record { counted = omega (arith, c .before .before .loop .inv .2 .number); long = omega arith }, search needs)
 
 add-u : tie.Need-add-u Inv-loop μ-loop
 add-u c = search needs

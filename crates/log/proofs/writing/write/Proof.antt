@@ -4,6 +4,7 @@ use Rattle.records.specs.Outcomes.{success}
 use Rattle.log.specs.Buffers.{Delivered}
 use Rattle.log.specs.Calls.{checkOf, checkedOutcome}
 use Rattle.log.proofs.Checks.{check-passed}
+use Rattle.log.proofs.Delivering.{writable}
 use Rattle.log.proofs.TidyCall.{write-refused, write-passed}
 use borrow.Author.Needs.{needs}
 use Rattle.log.proofs.writing.write.Statement.{statement}
@@ -23,7 +24,7 @@ enum-told : tie.Need-enum-told
 enum-told c = search needs
 
 deliver-log-requires : tie.Need-deliver-log-requires
-deliver-log-requires c κs = let p = check-passed _ _ _ (passed (c .before)) in (p .limits, p .enough, refl)
+deliver-log-requires c κs = let p = check-passed _ _ _ (passed (c .before)) in (writable (p .limits) (p .enough), refl)
 
 returns : tie.Need-returns
 returns c =
