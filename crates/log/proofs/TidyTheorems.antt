@@ -47,7 +47,7 @@ meaning-trans s q = record {
   contacts = λ t u v. (λ m. q .contacts t u v .0 (s .contacts t u v .0 m), λ m. s .contacts t u v .1 (q .contacts t u v .1 m));
 }
 
--- two logs mean the same exactly when the same pairs are in contact by their records
+-- in two logs that mean the same, the same pairs are in contact by their records
 contact-same : (n T : ℕ) (cts : List Record) (n′ T′ : ℕ) (cts′ : List Record) → SameMeaning n T cts n′ T′ cts′
     → (t u v : ℕ) → inContact (logRecords n T cts) t u v ≡ inContact (logRecords n′ T′ cts′) t u v
 contact-same n T cts n′ T′ cts′ s t u v = same-test _ _
