@@ -58,6 +58,14 @@ pub(crate) fn first_bytes(log: &[u8], len: usize) -> &[u8] {
     log
 }
 
+// The bytes of a log from a position on: none past its end.
+pub(crate) fn bytes_from(log: &[u8], at: usize) -> &[u8] {
+    if at <= log.len() {
+        return &log[at..];
+    }
+    first_bytes(log, 0)
+}
+
 // Sets the byte at a position to the lowest eight bits of a number; past the end it sets nothing.
 pub(crate) fn set_byte(log: &mut [u8], i: usize, value: usize) {
     if i < log.len() {

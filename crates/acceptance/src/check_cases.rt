@@ -8,6 +8,7 @@ use crate::random::SEED;
 use crate::random::draw;
 use crate::random_logs::put_small;
 use crate::tally::Tally;
+use crate::words::first_words;
 use crate::words::set_word;
 use crate::words::word_at;
 use crate::words::words_for;
@@ -27,26 +28,45 @@ fn by_hand(tally: Tally, words: &[u64], n: usize, ticks: usize, number: usize) -
     )
 }
 
-// D1's words with two more after them, and sizes of every kind.
+// D1's words, and too few of them.
+fn fewer_words(t: Tally, words: &[u64]) -> Tally {
+    let t = by_hand(t, first_words(words, 12), 4, 3, 0);
+    let t = by_hand(t, first_words(words, 11), 4, 3, 8);
+    let t = by_hand(t, first_words(words, 0), 4, 3, 8);
+    by_hand(t, first_words(words, 0), 64, 96, 8)
+}
+
+// D1's words with two more after them, at sizes within the limits.
+fn good_sizes(t: Tally, words: &[u64]) -> Tally {
+    let t = by_hand(t, words, 4, 3, 0);
+    let t = by_hand(t, words, 4, 4, 8);
+    let t = by_hand(t, words, 4, 2, 0);
+    by_hand(t, words, 3, 4, 11)
+}
+
+// At an n or T outside its limits.
+fn bad_sizes(t: Tally, words: &[u64]) -> Tally {
+    let huge = 0xffff_ffff_ffff_ffff;
+    let t = by_hand(t, words, 0, 3, 10);
+    let t = by_hand(t, words, 65, 3, 10);
+    let t = by_hand(t, words, huge, 3, 10);
+    let t = by_hand(t, words, 4, 0, 10);
+    let t = by_hand(t, words, 4, 97, 10);
+    by_hand(t, words, 4, huge, 10)
+}
+
+// With both outside, and with no words.
+fn worse_sizes(t: Tally, words: &[u64]) -> Tally {
+    let huge = 0xffff_ffff_ffff_ffff;
+    let t = by_hand(t, words, huge, huge, 10);
+    by_hand(t, first_words(words, 0), 0, 0, 10)
+}
+
+// Sizes of every kind.
 pub(crate) fn sizes() -> Tally {
     let words = WORDS;
-    let huge = 0xffff_ffff_ffff_ffff;
-    let t = by_hand(Tally::none(), &words, 4, 3, 0);
-    let t = by_hand(t, &words[..12], 4, 3, 0);
-    let t = by_hand(t, &words[..11], 4, 3, 8);
-    let t = by_hand(t, &words[..0], 4, 3, 8);
-    let t = by_hand(t, &words, 4, 4, 8);
-    let t = by_hand(t, &words, 4, 2, 0);
-    let t = by_hand(t, &words, 3, 4, 11);
-    let t = by_hand(t, &words, 0, 3, 10);
-    let t = by_hand(t, &words, 65, 3, 10);
-    let t = by_hand(t, &words, huge, 3, 10);
-    let t = by_hand(t, &words, 4, 0, 10);
-    let t = by_hand(t, &words, 4, 97, 10);
-    let t = by_hand(t, &words, 4, huge, 10);
-    let t = by_hand(t, &words, huge, huge, 10);
-    let t = by_hand(t, &words[..0], 0, 0, 10);
-    by_hand(t, &words[..0], 64, 96, 8)
+    let t = good_sizes(fewer_words(Tally::none(), &words), &words);
+    worse_sizes(bad_sizes(t, &words), &words)
 }
 
 // D1's words, one of them changed, as n 4 and T 3.

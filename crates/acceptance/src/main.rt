@@ -15,6 +15,7 @@ mod read_changed;
 mod read_many;
 mod read_random;
 mod read_refusals;
+mod refused_logs;
 mod runs;
 mod tally;
 mod tidy_cases;
@@ -28,62 +29,93 @@ mod write_cases;
 use tally::Tally;
 use tally::print;
 
-fn read_families() -> Tally {
-    let a = print(b"read: D1's log, read into words", read_cases::d1());
-    let b = print(b"read: the empty file", read_cases::empty());
-    let c = print(b"read: refusals 1 to 8", read_refusals::refusals());
-    let d = print(b"read: each prefix of D1's log", read_changed::prefixes());
-    let e = print(
+// Read: logs by hand, and D1's log cut and changed.
+fn read_by_hand(t: Tally) -> Tally {
+    let t = print(t, b"read: D1's log, read into words", read_cases::d1());
+    let t = print(t, b"read: the empty file", read_cases::empty());
+    let t = print(t, b"read: refusals 1 to 8", read_refusals::refusals());
+    print(
+        t,
+        b"read: each prefix of D1's log",
+        read_changed::prefixes(),
+    )
+}
+
+// Read: many logs, and long ones.
+fn read_many_logs(t: Tally) -> Tally {
+    let t = print(
+        t,
         b"read: D1's log with one byte changed",
         read_changed::changed_bytes(),
     );
-    let f = print(
+    let t = print(
+        t,
         b"read: 8,000 contacts, and days of full size",
         read_many::many(),
     );
-    let g = print(b"read: random logs", read_random::random());
-    a.plus(b).plus(c).plus(d).plus(e).plus(f).plus(g)
+    print(t, b"read: random logs", read_random::random())
 }
 
-fn check_families() -> Tally {
-    let a = print(
+// The check of words.
+fn check_words(t: Tally) -> Tally {
+    let t = print(
+        t,
         b"check_words: D1's words, and sizes of every kind",
         check_cases::sizes(),
     );
-    let b = print(
+    let t = print(
+        t,
         b"check_words: D1's words with one word changed",
         check_cases::broken(),
     );
-    let c = print(
+    let t = print(
+        t,
         b"check_words: D1's words with one bit turned over",
         check_cases::turned_bits(),
     );
-    let d = print(b"check_words: the largest day", check_cases::largest());
-    let e = print(b"check_words: words of random logs", check_cases::random());
-    a.plus(b).plus(c).plus(d).plus(e)
+    let t = print(t, b"check_words: the largest day", check_cases::largest());
+    print(
+        t,
+        b"check_words: words of random logs",
+        check_cases::random(),
+    )
 }
 
-fn tidy_families() -> Tally {
-    let a = print(b"tidy and write: D1's logs and words", tidy_d1::same_log());
-    let b = print(
+// Tidy and write: D1, and the limit of 8,000.
+fn tidy_d1_and_limits(t: Tally) -> Tally {
+    let t = print(
+        t,
+        b"tidy and write: D1's logs and words",
+        tidy_d1::same_log(),
+    );
+    let t = print(
+        t,
         b"tidy and write: D1 into 34 bytes and fewer",
         tidy_d1::rooms(),
     );
-    let c = print(
+    let t = print(
+        t,
         b"tidy: 8,000 contacts, and a full day",
         tidy_many::contacts(),
     );
-    let d = print(b"write: 8,000 runs, and more", tidy_many::runs());
-    let e = print(b"tidy: refusals 1 to 9", tidy_refusals::tidy());
-    let f = print(b"write: refusals 8 to 11, and 15", tidy_refusals::write());
-    let g = print(b"tidy: random logs", tidy_random::logs());
-    let h = print(b"write: random days", tidy_random::days());
-    a.plus(b).plus(c).plus(d).plus(e).plus(f).plus(g).plus(h)
+    print(t, b"write: 8,000 runs, and more", tidy_many::runs())
+}
+
+// Tidy and write: refusals, and random cases.
+fn tidy_refusals_and_random(t: Tally) -> Tally {
+    let t = print(t, b"tidy: refusals 1 to 9", tidy_refusals::tidy());
+    let t = print(
+        t,
+        b"write: refusals 8 to 11, and 15",
+        tidy_refusals::write(),
+    );
+    let t = print(t, b"tidy: random logs", tidy_random::logs());
+    print(t, b"write: random days", tidy_random::days())
 }
 
 fn main() {
-    let read = read_families();
-    let check = check_families();
-    let tidy = tidy_families();
-    print(b"all", read.plus(check).plus(tidy));
+    let t = read_many_logs(read_by_hand(Tally::none()));
+    let t = check_words(t);
+    let t = tidy_refusals_and_random(tidy_d1_and_limits(t));
+    print(Tally::none(), b"all", t);
 }

@@ -7,6 +7,7 @@ use crate::bytes::first_bytes;
 use crate::bytes::same_bytes;
 use crate::judge_logs::judge_read;
 use crate::judge_tidy::judge_tidy;
+use crate::tally::Tally;
 use crate::words::same_words;
 
 // What tidy answers to a log, if the second judge gives the same answer, and both leave the same words and bytes. Otherwise a refusal by a
@@ -45,6 +46,17 @@ pub(crate) fn agreed(log: &[u8], lent: usize, room: usize) -> Answer {
         &mut wanted_work[..lent],
         &mut wanted[..room],
     )
+}
+
+// A case whose answer is written by hand. The second judge has to give it, too.
+pub(crate) fn by_hand(
+    tally: Tally,
+    log: &[u8],
+    lent: usize,
+    room: usize,
+    expected: Answer,
+) -> Tally {
+    tally.with_case(agreed(log, lent, room).same(expected))
 }
 
 // Whether tidy makes exactly these bytes of a log.

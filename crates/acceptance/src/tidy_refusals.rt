@@ -6,87 +6,68 @@ use crate::d1::TIDY;
 use crate::d1::WORDS;
 use crate::random_days::fill_runs;
 use crate::read_many::long_log;
+use crate::refused_logs;
 use crate::tally::Tally;
 use crate::tidy_cases;
 use crate::words::first_words;
 use crate::words::set_word;
 use crate::write_cases;
 
-// A log that tidy refuses, lent so many words and bytes.
-fn tidy_refuses(
-    tally: Tally,
-    log: &[u8],
-    lent: usize,
-    room: usize,
-    number: usize,
-    offset: usize,
-) -> Tally {
-    tally.with_case(tidy_cases::agreed(log, lent, room).same(Answer::refused(number, offset)))
-}
-
-// 1 to 7, with enough lent.
-fn by_log(t: Tally) -> Tally {
+// 5: a log with a contact more than 8,000.
+fn too_many_contacts(t: Tally) -> Tally {
     let mut long = [0u8; 48016];
     long_log(&mut long, 4, 3, 8001);
-    let t = tidy_refuses(t, &long, 40, 60, 5, 48004);
-    let t = tidy_refuses(t, b"", 40, 60, 1, 0);
-    let t = tidy_refuses(t, b"BH\x04", 40, 60, 1, 0);
-    let t = tidy_refuses(t, b"BH\x04\x03CT\x00\x01\x00\x01E", 40, 60, 1, 10);
-    let t = tidy_refuses(t, b"ED\x00\x00\x00\x00", 40, 60, 2, 0);
-    let t = tidy_refuses(t, b"BH\x04\x03BH\x04\x03", 40, 60, 2, 4);
-    let t = tidy_refuses(t, b"BH\x41\x03ED\x00\x00\x00\x00", 400, 60, 3, 0);
-    let t = tidy_refuses(t, b"BH\x04\x61ED\x00\x00\x00\x00", 400, 60, 3, 0);
-    let t = tidy_refuses(t, b"BH\x04\x03CT\x00\x00\x00\x01", 40, 60, 4, 4);
-    let t = tidy_refuses(
-        t,
-        b"BH\x04\x03CT\x00\x01\x00\x02CT\x02\x03\x00\x03ED\x02\x00\x00\x00",
-        40,
-        60,
-        4,
-        10,
-    );
-    let t = tidy_refuses(
-        t,
-        b"BH\x04\x03CT\x00\x01\x00\x01ED\x02\x00\x00\x00",
-        40,
-        60,
-        6,
-        10,
-    );
-    tidy_refuses(
-        t,
-        b"BH\x04\x03CT\x00\x01\x00\x01ED\x01\x00\x00\x00\x00",
-        40,
-        60,
-        7,
-        16,
-    )
+    tidy_cases::by_hand(t, &long, 40, 60, Answer::refused(5, 48004))
 }
 
-// All refusals of tidy but 16, which no log can bring about, as it has no fewer contacts than runs. Any fault of the log comes before 8, and
-// 8 before 9.
-pub(crate) fn tidy() -> Tally {
-    let t = by_log(Tally::none());
-    let t = tidy_refuses(t, &TIDY, 11, 60, 8, 0);
-    let t = tidy_refuses(t, &TIDY, 11, 33, 8, 0);
-    let t = tidy_refuses(t, &TIDY, 0, 0, 8, 0);
-    let t = tidy_refuses(t, b"BH\x40\x60ED\x00\x00\x00\x00", 6143, 9, 8, 0);
-    let t = tidy_refuses(t, b"", 0, 0, 1, 0);
-    let t = tidy_refuses(
+// 8: fewer than n×T words are lent. It comes before 9.
+fn too_few_words(t: Tally) -> Tally {
+    let few = Answer::refused(8, 0);
+    let t = tidy_cases::by_hand(t, &TIDY, 11, 60, few);
+    let t = tidy_cases::by_hand(t, &TIDY, 11, 33, few);
+    let t = tidy_cases::by_hand(t, &TIDY, 0, 0, few);
+    tidy_cases::by_hand(t, b"BH\x40\x60ED\x00\x00\x00\x00", 6143, 9, few)
+}
+
+// Too few words and bytes, and a fault of the log, which comes first.
+fn faults_first(t: Tally) -> Tally {
+    let t = tidy_cases::by_hand(t, b"", 0, 0, Answer::refused(1, 0));
+    let t = tidy_cases::by_hand(
         t,
         b"BH\x04\x03CT\x00\x01\x00\x01ED\x02\x00\x00\x00",
         11,
         0,
-        6,
-        10,
+        Answer::refused(6, 10),
     );
-    let t = tidy_refuses(t, b"BH\x04\x03ED\x00\x00\x00\x00X", 0, 0, 7, 10);
-    let t = tidy_refuses(t, &MESSY, 12, 33, 9, 0);
-    let t = tidy_refuses(t, &MESSY, 20, 0, 9, 0);
-    let t = tidy_refuses(t, b"BH\x40\x60ED\x00\x00\x00\x00", 6144, 9, 9, 0);
-    t.with_case(tidy_cases::agreed(b"BH\x40\x60ED\x00\x00\x00\x00", 6144, 10).same(Answer::wrote(
+    tidy_cases::by_hand(
+        t,
+        b"BH\x04\x03ED\x00\x00\x00\x00X",
+        0,
+        0,
+        Answer::refused(7, 10),
+    )
+}
+
+// 9: fewer bytes are lent than the log has. Just enough are accepted.
+fn too_few_bytes(t: Tally) -> Tally {
+    let short = Answer::refused(9, 0);
+    let t = tidy_cases::by_hand(t, &MESSY, 12, 33, short);
+    let t = tidy_cases::by_hand(t, &MESSY, 20, 0, short);
+    let t = tidy_cases::by_hand(t, b"BH\x40\x60ED\x00\x00\x00\x00", 6144, 9, short);
+    tidy_cases::by_hand(
+        t,
+        b"BH\x40\x60ED\x00\x00\x00\x00",
+        6144,
         10,
-    )))
+        Answer::wrote(10),
+    )
+}
+
+// All refusals of tidy but 16, which no log can bring about, as it has no fewer contacts than runs.
+pub(crate) fn tidy() -> Tally {
+    let t = too_many_contacts(refused_logs::run_all(Tally::none(), true));
+    let t = faults_first(too_few_words(t));
+    too_few_bytes(t)
 }
 
 // Words that write refuses, lent so many of them and so many bytes.
@@ -99,16 +80,26 @@ fn write_refuses(
     room: usize,
     number: usize,
 ) -> Tally {
-    let got = write_cases::agreed(first_words(words, lent), n, ticks, room);
-    tally.with_case(got.same(Answer::refused(number, 0)))
+    write_cases::by_hand(
+        tally,
+        first_words(words, lent),
+        n,
+        ticks,
+        room,
+        Answer::refused(number, 0),
+    )
 }
 
-// Words of 64 badges and 96 ticks that are no day but have more than 8,000 runs: 10, 8 and 11, with no byte lent.
+// Words of 64 badges and 96 ticks that are no day but have more than 8,000 runs: 11 and 8, with no byte lent or enough.
 fn broken_runs(t: Tally, words: &[u64]) -> Tally {
-    let huge = 0xffff_ffff_ffff_ffff;
     let t = write_refuses(t, words, 6144, 64, 96, 0, 11);
     let t = write_refuses(t, words, 6144, 64, 96, 48100, 11);
-    let t = write_refuses(t, words, 6143, 64, 96, 0, 8);
+    write_refuses(t, words, 6143, 64, 96, 0, 8)
+}
+
+// The same words at sizes outside the limits: 10.
+fn wrong_sizes(t: Tally, words: &[u64]) -> Tally {
+    let huge = 0xffff_ffff_ffff_ffff;
     let t = write_refuses(t, words, 6143, 64, 97, 0, 10);
     let t = write_refuses(t, words, 6144, 65, 96, 0, 10);
     let t = write_refuses(t, words, 6144, 0, 96, 0, 10);
@@ -116,13 +107,18 @@ fn broken_runs(t: Tally, words: &[u64]) -> Tally {
     write_refuses(t, words, 0, huge, huge, 60, 10)
 }
 
-// 10, 8, 11, 15 and 9, each with all later ones that can go with it.
-pub(crate) fn write() -> Tally {
+// Words of 64 badges and 96 ticks with 8,001 runs: a day, which 15 refuses, and then, with one word changed, none.
+fn many_runs(t: Tally) -> Tally {
     let mut words = [0u64; 6144];
     fill_runs(&mut words, 8001);
-    let t = write_refuses(Tally::none(), &words, 6144, 64, 96, 0, 15);
+    let t = write_refuses(t, &words, 6144, 64, 96, 0, 15);
     set_word(&mut words, 6143, 1);
-    let t = broken_runs(t, &words);
+    wrong_sizes(broken_runs(t, &words), &words)
+}
+
+// 10, 8, 11, 15 and 9, each with all later ones that can go with it.
+pub(crate) fn write() -> Tally {
+    let t = many_runs(Tally::none());
     let t = write_refuses(t, &WORDS, 0, 4, 3, 0, 8);
     let t = write_refuses(t, &WORDS, 11, 4, 3, 60, 8);
     let t = write_refuses(t, &WORDS, 14, 3, 4, 0, 11);

@@ -5,6 +5,7 @@ use crate::answer::DIFFERENT;
 use crate::bytes::FILLER;
 use crate::bytes::same_bytes;
 use crate::judge_tidy::judge_write;
+use crate::tally::Tally;
 
 // What write answers to words, if the second judge gives the same answer, and both leave the same bytes. Otherwise a refusal by a
 // number that no call gives.
@@ -25,4 +26,16 @@ pub(crate) fn agreed(words: &[u64], n: usize, ticks: usize, room: usize) -> Answ
         return Answer::refused(DIFFERENT, 0);
     }
     compared(words, n, ticks, &mut buffer[..room], &mut wanted[..room])
+}
+
+// A case whose answer is written by hand. The second judge has to give it, too.
+pub(crate) fn by_hand(
+    tally: Tally,
+    words: &[u64],
+    n: usize,
+    ticks: usize,
+    room: usize,
+    expected: Answer,
+) -> Tally {
+    tally.with_case(agreed(words, n, ticks, room).same(expected))
 }
