@@ -23,7 +23,7 @@ use Rattle.records.specs.Logs.{logRecords}
 use Rattle.records.proofs.Records.{length-encode, encode-append}
 use Rattle.log.specs.Buffers.{overwrite}
 use Rattle.log.specs.Days.{neighbours, adjacent}
-use Rattle.log.specs.Tidy.{concat, keepIf, runStart, runEnds, runAt, runsOf, tidyContacts, tidyLog}
+use Rattle.log.specs.Tidy.{concatBelow, keepIf, runStart, runEnds, runAt, runsOf, tidyContacts, tidyLog}
 use Rattle.log.specs.Writing.{Appends, offsetAfter, unitedOf, startAfter, Encodes}
 use Rattle.log.proofs.Concat.{concat-nil, keep-nil}
 use Rattle.log.proofs.Delivering.{take-overwrite}
@@ -61,8 +61,8 @@ appends-contact count buffer buffer′ a b first last h k e =
     }
 
 -- a loop's turn: the next list
-pub appends-more : (f : ℕ → List Record) (m : ℕ) {a b c : ℕ} {x y z : List ℕ} → Appends (concat m f) a b x y → Appends (f m) b c y z → Appends (concat (m + 1) f) a c x z
-unfolding concat
+pub appends-more : (f : ℕ → List Record) (m : ℕ) {a b c : ℕ} {x y z : List ℕ} → Appends (concatBelow m f) a b x y → Appends (f m) b c y z → Appends (concatBelow (m + 1) f) a c x z
+unfolding concatBelow
 appends-more f m e g = rw add-one (appends-append e g)
 
 -- the first tick of the run that leads up to the next tick
@@ -75,8 +75,8 @@ start-after p t = go (p t) refl
 
 -- a turn of the loop over the ticks: the run that ends in tick t, if one does, and the first tick of the one that leads up to the next
 module _ (T : ℕ) (p : ℕ → Bool) (t start : ℕ) (met : Bool) (h : t < T) (e : start ≡ runStart p t) (f : met ≡ (ltb t T and p t)) where
-  pub runs-more : (u v : ℕ) {after : Bool} → after ≡ (ltb (t + 1) T and p (t + 1)) → {a b c : ℕ} {x y z : List ℕ} → Appends (concat t (runAt T p u v)) a b x y
-      → Appends (keepIf (met and isnt after) (Contact u v start t ∷ [])) b c y z → Appends (concat (t + 1) (runAt T p u v)) a c x z
+  pub runs-more : (u v : ℕ) {after : Bool} → after ≡ (ltb (t + 1) T and p (t + 1)) → {a b c : ℕ} {x y z : List ℕ} → Appends (concatBelow t (runAt T p u v)) a b x y
+      → Appends (keepIf (met and isnt after) (Contact u v start t ∷ [])) b c y z → Appends (concatBelow (t + 1) (runAt T p u v)) a c x z
   unfolding runAt runEnds _and_
   runs-more u v {after} g {a} {b} {c} {x} {y} {z} i j =
       let same : keepIf (met and isnt after) (Contact u v start t ∷ []) ≡ runAt T p u v t = rw (e, f, g, add-one, lt-ltb t T h) in
@@ -113,12 +113,12 @@ largerRuns T r u v = keepIf (ltb u v) (runsOf T (λ t. r t u v) u v)
 
 module _ (T : ℕ) (r : ℕ → ℕ → ℕ → Bool) (u : ℕ) where
   -- no badge up to u is a larger one
-  pub row-none : concat (u + 1) (largerRuns T r u) ≡ []
+  pub row-none : concatBelow (u + 1) (largerRuns T r u) ≡ []
   row-none = concat-nil (u + 1) (largerRuns T r u) (λ v h. keep-nil (ltb u v) _ (λ e. let l : u < v = ltb-true _ _ e in omega arith))
 
   -- a turn of the loop over the larger badges
-  pub row-more : (v : ℕ) → u < v → {a b c : ℕ} {x y z : List ℕ} → Appends (concat v (largerRuns T r u)) a b x y
-      → Appends (runsOf T (λ t. r t u v) u v) b c y z → Appends (concat (v + 1) (largerRuns T r u)) a c x z
+  pub row-more : (v : ℕ) → u < v → {a b c : ℕ} {x y z : List ℕ} → Appends (concatBelow v (largerRuns T r u)) a b x y
+      → Appends (runsOf T (λ t. r t u v) u v) b c y z → Appends (concatBelow (v + 1) (largerRuns T r u)) a c x z
   unfolding keepIf
   row-more v h {a} {b} {c} {x} {y} {z} i j =
       let same : runsOf T (λ t. r t u v) u v ≡ largerRuns T r u v = rw (lt-ltb u v h) in

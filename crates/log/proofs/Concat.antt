@@ -9,11 +9,11 @@ use native.Mathlib.Omega.{arith}
 use Rattle.sets.proofs.Bools.{clash}
 use Rattle.records.specs.declared.record.Record.{Record}
 use Rattle.records.specs.Logs.{Mem}
-use Rattle.log.specs.Tidy.{concat, keepIf}
+use Rattle.log.specs.Tidy.{concatBelow, keepIf}
 
 -- empty lists one after the other
-pub concat-nil : (m : ℕ) (f : ℕ → List Record) → ((i : ℕ) → i < m → f i ≡ []) → concat m f ≡ []
-unfolding concat
+pub concat-nil : (m : ℕ) (f : ℕ → List Record) → ((i : ℕ) → i < m → f i ≡ []) → concatBelow m f ≡ []
+unfolding concatBelow
 concat-nil zero f e = refl
 concat-nil (suc m) f e = rw (e m (le-refl _), concat-nil m f (λ i h. e i (omega arith)))
 
@@ -24,21 +24,21 @@ keep-nil true cs h = absurd (h refl)
 keep-nil false cs h = refl
 
 -- a record is in the lists one after the other exactly when it is in one of them
-pub in-concat : (m : ℕ) (f : ℕ → List Record) {c : Record} (i : ℕ) → i < m → Mem c (f i) → Mem c (concat m f)
-unfolding concat
+pub in-concat : (m : ℕ) (f : ℕ → List Record) {c : Record} (i : ℕ) → i < m → Mem c (f i) → Mem c (concatBelow m f)
+unfolding concatBelow
 in-concat zero f i h k = absurd (not-suc-le-zero h)
 in-concat (suc m) f {c} i h k = go (eq-or-lt-of-le h) (in-concat m f i)
   where
-    go : (suc i ≡ suc m) ⊎ (suc i < suc m) → (i < m → Mem c (f i) → Mem c (concat m f)) → Mem c (concat m f ++ f m)
-    go (inl e) ih = let g : i ≡ m = omega arith in Memᴰ·append-right (concat m f) (rw (← g) k)
+    go : (suc i ≡ suc m) ⊎ (suc i < suc m) → (i < m → Mem c (f i) → Mem c (concatBelow m f)) → Mem c (concatBelow m f ++ f m)
+    go (inl e) ih = let g : i ≡ m = omega arith in Memᴰ·append-right (concatBelow m f) (rw (← g) k)
     go (inr l) ih = Memᴰ·append-left (f m) (ih (omega arith) k)
 
-pub of-concat : (m : ℕ) (f : ℕ → List Record) {c : Record} → Mem c (concat m f) → (i : ℕ) × (i < m) × Mem c (f i)
-unfolding concat
+pub of-concat : (m : ℕ) (f : ℕ → List Record) {c : Record} → Mem c (concatBelow m f) → (i : ℕ) × (i < m) × Mem c (f i)
+unfolding concatBelow
 of-concat zero f k = absurd (List·Memᴰ·not-nil k)
-of-concat (suc m) f {c} k = go (List·Memᴰ·append-cases (concat m f) k) (of-concat m f)
+of-concat (suc m) f {c} k = go (List·Memᴰ·append-cases (concatBelow m f) k) (of-concat m f)
   where
-    go : Mem c (concat m f) ⊎ Mem c (f m) → (Mem c (concat m f) → (i : ℕ) × (i < m) × Mem c (f i)) → (i : ℕ) × (i < suc m) × Mem c (f i)
+    go : Mem c (concatBelow m f) ⊎ Mem c (f m) → (Mem c (concatBelow m f) → (i : ℕ) × (i < m) × Mem c (f i)) → (i : ℕ) × (i < suc m) × Mem c (f i)
     go (inl k) ih = let r = ih k in (r .0, omega (arith, r .1), r .2)
     go (inr k) ih = (m, le-refl _, k)
 

@@ -2,33 +2,19 @@
 -- and which words are those of a day.
 use mathlib.Core.Path.{_≡_, refl, sym, _∙_}
 use mathlib.Core.Bool.{Bool, true, false}
-use mathlib.Core.List.{List, [], _∷_, _++_}
+use mathlib.Core.List.{List, _++_}
 use mathlib.Core.Logic.{_⊎_, inl, inr}
 use Prim.Native.Nat.{ℕ, zero, suc, _+_, _*_, _/_, _%_, _≤_, _<_}
 use native.Mathlib.Nat.{eq-or-lt-of-le, not-suc-le-zero, suc-mul, zero-mul, mul-le-mul-right, mod-lt, div-add-mod', div-lt-iff-lt-mul}
 use native.Mathlib.Omega.{arith}
 use lib.Arith.{digits-lt}
 use lib.ListN.{length, getD, take, replicate, length-append, List·getD-append, length-replicate, getD-replicate}
-use lib.Seq.{getD-at, getD-append-add, getD-take, ext-getD}
+use lib.Seq.{getD-append-add, getD-take, ext-getD}
 use Rattle.sets.specs.Sets.{In, setOf}
 use Rattle.sets.proofs.Bools.{clash, same-test}
+use Rattle.sets.proofs.Tables.{tabulate-length, tabulate-at}
 use Rattle.sets.proofs.Sets.{not-in-none, set-lt, in-set, of-set, of-set-lt, ext}
-use Rattle.log.specs.Days.{neighbours, tabulate, tickWords, dayWords, IsDay}
-
--- a list by its elements has so many elements, and those
-pub tabulate-length : (m : ℕ) (f : ℕ → ℕ) → length (tabulate m f) ≡ m
-unfolding tabulate
-tabulate-length zero f = refl
-tabulate-length (suc m) f = length-append (tabulate m f) (f m ∷ []) ∙ omega (arith, tabulate-length m f)
-
-pub tabulate-at : (m : ℕ) (f : ℕ → ℕ) (i : ℕ) → i < m → getD (tabulate m f) i 0 ≡ f i
-unfolding tabulate
-tabulate-at zero f i h = absurd (not-suc-le-zero h)
-tabulate-at (suc m) f i h = go (eq-or-lt-of-le h) (tabulate-at m f i)
-  where
-    go : (suc i ≡ suc m) ⊎ (suc i < suc m) → (i < m → getD (tabulate m f) i 0 ≡ f i) → getD (tabulate m f ++ f m ∷ []) i 0 ≡ f i
-    go (inl e) ih = let g : i ≡ m = omega arith in rw g (getD-at (tabulate m f) (f m) [] 0 m (tabulate-length m f))
-    go (inr l) ih = List·getD-append (tabulate m f) (f m ∷ []) 0 i (omega (arith, tabulate-length m f)) ∙ ih (omega arith)
+use Rattle.log.specs.Days.{neighbours, tickWords, dayWords, IsDay}
 
 -- a tick has n words, and a day of T ticks T * n
 pub tick-length : (n : ℕ) (r : ℕ → ℕ → Bool) → length (tickWords n r) ≡ n

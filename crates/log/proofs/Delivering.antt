@@ -6,10 +6,10 @@ use Prim.Native.Nat.{ℕ, _+_, _*_, _≤_, _<_}
 use native.Mathlib.Nat.{zero-add}
 use native.Mathlib.Omega.{arith}
 use lib.ListN.{length, take, drop}
-use lib.Seq.{paste, take-length, take-paste, length-take-le}
+use lib.Seq.{paste, take-length, take-paste}
 use borrow.Author.Tests.{lt-ltb, le-ltb}
-use Rattle.records.specs.Limits.{maxContacts, maxLogBytes, withinLimits, wordsFor}
-use Rattle.records.specs.Outcomes.{refused, success, refuseIf}
+use Rattle.records.specs.Limits.{maxContacts, withinLimits, wordsFor}
+use Rattle.records.specs.Outcomes.{Outcome, refused, success, refuseIf, andThen}
 use Rattle.records.proofs.WithinLimits.{limits-of}
 use Rattle.log.specs.Buffers.{deliver, overwrite}
 use Rattle.log.specs.Days.{adjacent}
@@ -32,6 +32,11 @@ take-overwrite at bytes buffer h =
     rw (overwrite-paste at bytes buffer)
     (take-paste buffer at bytes (length bytes) (omega arith) (omega arith) ∙ ap (λ (s : List ℕ). take at buffer ++ s) (take-length bytes))
 
+-- bytes laid over a buffer from its start on
+pub overwrite-front : (bytes buffer : List ℕ) → overwrite 0 bytes buffer ≡ bytes ++ drop (length bytes) buffer
+unfolding overwrite
+overwrite-front bytes buffer = rw (zero-add (length bytes))
+
 -- more than 8,000 contact records are refused, and no more than that make the tidy log
 module _ (number n T : ℕ) (r : ℕ → ℕ → ℕ → Bool) where
   pub bytes-many : maxContacts < length (tidyContacts n T r) → tidyBytes number n T r ≡ refused number 0
@@ -41,6 +46,16 @@ module _ (number n T : ℕ) (r : ℕ → ℕ → ℕ → Bool) where
   pub bytes-few : length (tidyContacts n T r) ≤ maxContacts → tidyBytes number n T r ≡ success (tidyLog n T r)
   unfolding tidyBytes refuseIf
   bytes-few h = rw (tidyBytes, le-ltb maxContacts (length (tidyContacts n T r)) h)
+
+-- what is judged before an answer: a refusal is delivered as it is, and the answer follows where there is none
+module _ {A : Type 0} (o : Outcome A) (further : A → Outcome (List ℕ)) (buffer : List ℕ) where
+  pub deliver-refused : (number offset : ℕ) → o ≡ refused number offset → deliver (andThen o further) buffer ≡ record { answer = refused number offset; buffer = buffer }
+  unfolding andThen deliver
+  deliver-refused number offset e = rw e
+
+  pub deliver-passed : (a : A) → o ≡ success a → deliver (andThen o further) buffer ≡ deliver (further a) buffer
+  unfolding andThen
+  deliver-passed a e = rw e
 
 -- a buffer that is too short for an answer, and one that holds it
 module _ (bytes buffer : List ℕ) where
@@ -52,28 +67,12 @@ module _ (bytes buffer : List ℕ) where
   unfolding deliver
   deliver-fits h = rw (deliver, le-ltb (length buffer) (length bytes) h)
 
--- the bytes of a log with so many contact records
-pub log-size : (count : ℕ) (log : List ℕ) → count ≤ maxContacts → maxLogBytes ≤ length log → length (take (10 + 6 * count) log) ≡ 10 + 6 * count
-log-size count log h k = length-take-le (10 + 6 * count) log (omega arith)
-
--- what becomes of a tidy log that is encoded in memory of its own, with so many contact records: there are too many of them; the buffer
--- that is lent is too short; or the buffer holds it
+-- what becomes of a tidy log that is encoded in memory of its own, with so many contact records: there are too many of them; or the log is
+-- an answer like any other
 module _ {n T : ℕ} {ws : List ℕ} {count : ℕ} {log : List ℕ} (e : Encodes n T ws count log) (number : ℕ) (buffer : List ℕ) where
   pub encoded-many : maxContacts < count → deliver (tidyBytes number n T (adjacent n ws)) buffer ≡ record { answer = refused number 0; buffer = buffer }
   unfolding deliver
   encoded-many h = rw (bytes-many number n T (adjacent n ws) (omega (arith, e .number)))
 
-  module _ (h : count ≤ maxContacts) (k : maxLogBytes ≤ length log) where
-    encoded : tidyBytes number n T (adjacent n ws) ≡ success (take (10 + 6 * count) log)
-    encoded = bytes-few number n T (adjacent n ws) (omega (arith, e .number)) ∙ ap success (sym (e .bytes h))
-
-    size : length (take (10 + 6 * count) log) ≡ 10 + 6 * count
-    size = log-size count log h k
-
-    pub encoded-short : length buffer < 10 + 6 * count → deliver (tidyBytes number n T (adjacent n ws)) buffer ≡ record { answer = refused 9 0; buffer = buffer }
-    encoded-short l = rw encoded (deliver-short (take (10 + 6 * count) log) buffer (rw size l))
-
-    pub encoded-whole : 10 + 6 * count ≤ length buffer
-        → deliver (tidyBytes number n T (adjacent n ws)) buffer ≡ record { answer = success (10 + 6 * count); buffer = overwrite 0 (take (10 + 6 * count) log) buffer }
-    unfolding overwrite
-    encoded-whole l = rw encoded (rw (size, zero-add (10 + 6 * count)) (rw size at (deliver-fits (take (10 + 6 * count) log) buffer (rw size l))))
+  pub encoded-few : count ≤ maxContacts → deliver (tidyBytes number n T (adjacent n ws)) buffer ≡ deliver (success (take (10 + 6 * count) log)) buffer
+  encoded-few h = rw (bytes-few number n T (adjacent n ws) (omega (arith, e .number)), e .bytes h)

@@ -5,6 +5,7 @@ use Prim.Native.Nat.{ℕ}
 use lib.ListN.{length, replicate}
 use Rattle.sets.specs.Bools.{_and_, _or_, isnt, all}
 use Rattle.sets.specs.Sets.{bit, setOf}
+use Rattle.sets.specs.Tables.{tabulate}
 use Rattle.sets.specs.Bytes.{littleEndian, fromLittleEndian}
 use Rattle.records.specs.declared.record.Record.{Record}
 use Rattle.records.specs.declared.record.Record.the-variants.{Contact}
@@ -13,13 +14,13 @@ use Rattle.records.specs.Records.{fieldsOf, encode, encodeAll, isMark, markFrom
 use Rattle.records.specs.Outcomes.{refused, success, refuseIf, andThen}
 use Rattle.records.specs.Judging.{validContact, judgeKind, judgeValues, judgeDecoded, judgeRecord, prepend, judgeIn, judgeFrom, judge}
 use Rattle.records.specs.Meaning.{badgesOf, ticksOf, contactsOf, covers, inContact}
-use Rattle.log.specs.Days.{neighbours, adjacent, tabulate, tickWords, dayWords, dayOf, isTick, isDay}
 use Rattle.records.specs.Verdicts.{valuesOf}
+use Rattle.records.specs.Logs.{logRecords}
+use Rattle.log.specs.Days.{neighbours, adjacent, tickWords, dayWords, dayOf, isTick, isDay}
 use Rattle.log.specs.Calls.{readJudged, readOf, checkOf, tidyBytes, writeOf, tidyBefore9, tidyOf}
-use Rattle.log.specs.Tidy.{concat, keepIf, runStart, runEnds, runAt, runsOf, rowRuns, tidyContacts, tidyLog}
+use Rattle.log.specs.Tidy.{concatBelow, keepIf, runStart, runEnds, runAt, runsOf, rowRuns, tidyContacts, tidyLog}
 use Rattle.log.specs.Buffers.{deliver}
 use Rattle.log.specs.Tidying.{tidiedJudged, tidiedOf}
-use Rattle.records.specs.Logs.{logRecords}
 
 -- contacts 0–1, 0–2 and 1–2 in ticks 0 to 1, and 2–3 in ticks 0 to 2
 d1Contacts : List Record
@@ -44,7 +45,7 @@ d1Words = 6 ∷ 5 ∷ 11 ∷ 4 ∷ 6 ∷ 5 ∷ 11 ∷ 4 ∷ 0 ∷ 0 ∷ 8 ∷ 4 
 
 -- all that the examples compute with
 computing : ℕ
-unfolding d1Contacts d1Log d1Variant d1Words sevens _and_ _or_ isnt all bit setOf littleEndian fromLittleEndian withinLimits fieldsOf encode encodeAll isMark markFrom recordFrom decodeMarked decode refuseIf validContact judgeKind judgeValues judgeDecoded judgeRecord prepend judgeIn judgeFrom judge badgesOf ticksOf contactsOf covers inContact neighbours tabulate tickWords dayWords dayOf isTick isDay valuesOf readJudged readOf checkOf logRecords andThen adjacent concat keepIf runStart runEnds runAt runsOf rowRuns tidyContacts tidyLog deliver tidyBytes writeOf tidyBefore9 tidyOf tidiedJudged tidiedOf
+unfolding d1Contacts d1Log d1Variant d1Words sevens _and_ _or_ isnt all bit setOf littleEndian fromLittleEndian withinLimits fieldsOf encode encodeAll isMark markFrom recordFrom decodeMarked decode refuseIf validContact judgeKind judgeValues judgeDecoded judgeRecord prepend judgeIn judgeFrom judge badgesOf ticksOf contactsOf covers inContact neighbours tabulate tickWords dayWords dayOf isTick isDay valuesOf readJudged readOf checkOf logRecords andThen adjacent concatBelow keepIf runStart runEnds runAt runsOf rowRuns tidyContacts tidyLog deliver tidyBytes writeOf tidyBefore9 tidyOf tidiedJudged tidiedOf
 computing = 0
 
 record Examples : Type 0 where

@@ -12,24 +12,24 @@ use Rattle.records.specs.declared.record.Record.{Record}
 use Rattle.records.specs.declared.record.Record.the-variants.{End}
 use Rattle.records.specs.declared.record.Decoded.{Decoded}
 use Rattle.records.specs.declared.record.Decoded.the-variants as d
-use Rattle.records.proofs.record.Decoded.{the-type}
-use denote.Enum.Declared.{tagOf}
-use types.Run.{OneOf}
 use Rattle.records.specs.Limits.{maxContacts, wordsFor}
 use Rattle.records.specs.Records.{sizeOf, kindOf, decode, encode, encodeAll}
 use Rattle.records.specs.Outcomes.{success}
 use Rattle.records.specs.Judging.{validContact, judge}
 use Rattle.records.specs.Meaning.{badgesOf, ticksOf, inContact}
-use Rattle.log.specs.Days.{dayWords, dayOf}
-use Rattle.log.specs.Filling.{Accepts, Admissible, Fitting, Marks}
 use Rattle.records.specs.Logs.{Mem, logRecords}
+use Rattle.records.proofs.record.Decoded.{the-type}
 use Rattle.records.proofs.Outcomes.{success-same}
 use Rattle.records.proofs.Records.{size-pos, length-encode, Encodable, decode-encode}
 use Rattle.records.proofs.Judged.{by-contact}
 use Rattle.records.proofs.Accepting.{accepted-of}
 use Rattle.records.proofs.WithinLimits.{limits-of}
+use Rattle.log.specs.Days.{dayWords, dayOf}
+use Rattle.log.specs.Filling.{Accepts, Admissible, Fitting, Marks}
 use Rattle.log.proofs.Days.{day-none}
 use Rattle.log.proofs.Marking.{marks-append}
+use denote.Enum.Declared.{tagOf}
+use types.Run.{OneOf}
 
 -- a record of an accepted log: a contact is valid for the log's n and T, and an end's count fits its bytes
 pub record Proper (n T : ℕ) (r : Record) : Type 0 where

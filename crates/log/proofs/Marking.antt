@@ -24,11 +24,11 @@ use Rattle.records.specs.declared.record.Record.the-variants.{Contact}
 use Rattle.records.specs.Limits.{maxBadges}
 use Rattle.records.specs.Judging.{validContact}
 use Rattle.records.specs.Meaning.{covers, inContact}
+use Rattle.records.proofs.Judged.{valid-of}
+use Rattle.records.proofs.Meaning.{Covers, covers-of, covers-in, contact-append}
 use Rattle.log.specs.Days.{neighbours, dayWords}
 use Rattle.log.specs.Filling.{Fitting, marked, Marks}
-use Rattle.records.proofs.Judged.{valid-of}
 use Rattle.log.proofs.Days.{day-length, tick-fits, in-day, of-day, day-by, day-same}
-use Rattle.records.proofs.Meaning.{Covers, covers-of, covers-in, contact-append}
 
 -- badge v inserted into word i: every word has the members that it had, word i has v as well, and nothing else is new
 abbrev inserted : List ℕ → ℕ → ℕ → List ℕ

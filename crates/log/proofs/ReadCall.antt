@@ -11,13 +11,13 @@ use Rattle.records.specs.Limits.{wordsFor}
 use Rattle.records.specs.Outcomes.{Outcome, refused, success}
 use Rattle.records.specs.Judging.{judge}
 use Rattle.records.specs.Meaning.{badgesOf, ticksOf}
-use Rattle.log.specs.Days.{dayOf}
-use Rattle.log.specs.Filling.{Accepts}
 use Rattle.records.specs.Verdicts.{Values, valuesOf, verdictOf}
-use Rattle.log.specs.Calls.{Read, readJudged, readOf}
 use Rattle.records.proofs.Outcomes.{refused-success, success-same, refused-same}
 use Rattle.records.proofs.Accepting.{accepted-of}
 use Rattle.records.proofs.WithinLimits.{limits-of, words-most}
+use Rattle.log.specs.Days.{dayOf}
+use Rattle.log.specs.Filling.{Accepts}
+use Rattle.log.specs.Calls.{Read, readJudged, readOf}
 
 abbrev pub left : Outcome Values → List ℕ → Read
 left answer words = record { answer = answer; words = words }

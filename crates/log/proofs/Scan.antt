@@ -6,13 +6,12 @@ use mathlib.Core.List.{List}
 use mathlib.Core.Logic.{_⊎_, inl, inr}
 use Prim.Native.Nat.{ℕ, _^_, _<_}
 use native.Mathlib.Decide.{ℕ-discrete}
-use native.Mathlib.Omega.{arith}
 use borrow.Author.Tests.{ltb-true, lt-ltb}
 use Rattle.sets.specs.Bools.{_or_, isnt}
 use Rattle.sets.specs.Sets.{In, has, Sub, difference, only, smallest}
 use Rattle.sets.proofs.Bools.{clash, and-in, and-left, and-right, or-left, or-right, or-of, isnt-in, isnt-of, to-false, all-in, all-of}
-use Rattle.sets.proofs.Sets.{in-test, has-test, not-in-none, some, in-difference, of-difference, of-only, in-lt, lt-of-members, sub-refl}
-use Rattle.sets.proofs.Smallest.{smallest-in, smallest-first}
+use Rattle.sets.proofs.Sets.{in-test, has-test, not-in-none, in-difference, of-difference, of-only, in-lt, lt-of-members, sub-lt, sub-refl}
+use Rattle.sets.proofs.Smallest.{smallest-member}
 use Rattle.log.specs.Days.{neighbours, IsTick, IsDay, isTick, isDay}
 
 -- an implication of tests passes exactly when the first test's passing gives the second's
@@ -112,7 +111,4 @@ walk-done {n} {row} {u} {unseen} w e v i = go (w .seen v i)
 
 -- where some are unseen in a row below 2 ^ w, the smallest of them below w is one of them
 pub walk-in : {n : ℕ} {row : ℕ → ℕ} {u unseen : ℕ} (w : ℕ) → Walked n row u unseen → row u < 2 ^ w → (unseen ≡ 0 → ⊥) → In unseen (smallest w unseen)
-walk-in {n} {row} {u} {unseen} w h l f =
-    let m = some unseen f in
-    let k = in-lt w (row u) (m .0) l (h .subset .at (m .0) (m .1)) in
-    smallest-in w unseen (omega (arith, smallest-first w unseen (m .0) (m .1) k))
+walk-in {n} {row} {u} {unseen} w h l f = smallest-member w unseen (sub-lt w unseen (row u) (h .subset) l) f .0

@@ -5,11 +5,11 @@ use Prim.Native.Nat.{ℕ, _<_}
 use native.Mathlib.Omega.{arith}
 use Rattle.sets.proofs.Sets.{not-in-none, ext}
 use Rattle.records.specs.Outcomes.{Outcome, refused, success}
-use Rattle.log.specs.Days.{neighbours}
 use Rattle.records.specs.Verdicts.{Values}
+use Rattle.records.proofs.Outcomes.{refused-success, success-same}
+use Rattle.log.specs.Days.{neighbours}
 use Rattle.log.specs.Calls.{Read}
 use Rattle.log.specs.Reading.{HasRead, Reads}
-use Rattle.records.proofs.Outcomes.{refused-success, success-same}
 use Rattle.log.proofs.Days.{same-words}
 use Rattle.log.proofs.SmallLogs.{never, once, twice, bytesOf, never-log, in-twice, once-log, twice-log, two, met}
 

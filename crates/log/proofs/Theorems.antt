@@ -9,22 +9,21 @@ use native.Mathlib.Omega.{arith}
 use lib.ListN.{length, drop, length-append, length-drop}
 use lib.Seq.{drop-at}
 use Rattle.sets.specs.Sets.{In}
-use Rattle.records.specs.declared.record.Kind.the-variants as k
 use Rattle.records.specs.declared.record.Record.{Record}
 use Rattle.records.specs.Limits.{wordsFor}
 use Rattle.records.specs.Outcomes.{success}
 use Rattle.records.specs.Judging.{validContact, judge}
 use Rattle.records.specs.Meaning.{badgesOf, ticksOf, inContact}
-use Rattle.records.proofs.Theorems.{log-accepted, met-in, met-of, met-below, met-apart}
-use Rattle.log.specs.Days.{neighbours, dayWords, dayOf, IsDay}
 use Rattle.records.specs.Verdicts.{valuesOf}
-use Rattle.log.specs.Calls.{Read, readOf, checkOf}
 use Rattle.records.specs.Logs.{Mem, logRecords, IsLog, Met}
-use Rattle.log.specs.Reading.{HasRead, Reads}
+use Rattle.records.proofs.Theorems.{log-accepted, met-in, met-of, met-below, met-apart}
 use Rattle.records.proofs.Accepting.{accepted-of}
 use Rattle.records.proofs.Verdicts.{values-log}
-use Rattle.log.proofs.Days.{day-length, neighbours-append, in-day, of-day, relation-day}
 use Rattle.records.proofs.Meaning.{contact-swap}
+use Rattle.log.specs.Days.{neighbours, dayWords, dayOf, IsDay}
+use Rattle.log.specs.Calls.{Read, readOf, checkOf}
+use Rattle.log.specs.Reading.{HasRead, Reads}
+use Rattle.log.proofs.Days.{day-length, neighbours-append, in-day, of-day, relation-day}
 use Rattle.log.proofs.ReadCall.{read-success}
 use Rattle.log.proofs.Checks.{check-append, check-day}
 

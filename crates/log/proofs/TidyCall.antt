@@ -21,6 +21,7 @@ use Rattle.log.specs.Calls.{Read, readOf, checkOf, tidyBytes, writeOf, t
 use Rattle.log.proofs.Days.{day-length, neighbours-append, in-day, of-day}
 use Rattle.log.proofs.ReadCall.{read-refused, read-few, read-success, Case, log-refused, words-few, words-enough, case-of}
 use Rattle.log.proofs.TidyForm.{tidy-same}
+use Rattle.log.proofs.Delivering.{deliver-refused, deliver-passed}
 
 -- words after the first n×T make no difference
 pub adjacent-append : (n T : ℕ) (ws rest : List ℕ) (t u v : ℕ) → length ws ≡ wordsFor n T → t < T → u < n → adjacent n (ws ++ rest) t u v ≡ adjacent n ws t u v
@@ -46,12 +47,12 @@ bytes-same number n T r q e = rw (tidy-same n T r q e, log-same n T r q e)
 -- write: the refusal of the check first, and then as the tidy log is delivered
 module _ (n T : ℕ) (ws buffer : List ℕ) where
   pub write-refused : (number offset : ℕ) → checkOf n T ws ≡ refused number offset → writeOf n T ws buffer ≡ record { answer = refused number offset; buffer = buffer }
-  unfolding writeOf andThen deliver
-  write-refused number offset e = rw e
+  unfolding writeOf
+  write-refused number offset e = deliver-refused _ _ buffer number offset e
 
   pub write-passed : checkOf n T ws ≡ success tt → writeOf n T ws buffer ≡ deliver (tidyBytes 15 n T (adjacent n ws)) buffer
-  unfolding writeOf andThen
-  write-passed e = rw e
+  unfolding writeOf
+  write-passed e = deliver-passed _ _ buffer tt e
 
 -- tidy's answer before 9: the log's refusal, then 8, then 16
 module _ (log work : List ℕ) where

@@ -20,24 +20,24 @@ use Rattle.records.specs.Logs.{Mem, logRecords}
 use Rattle.records.proofs.Judged.{Valid, valid-of, by-contact}
 use Rattle.records.proofs.Meaning.{Covers, covers-of, covers-in}
 use Rattle.records.proofs.Theorems.{met-in, met-of}
-use Rattle.log.specs.Tidy.{concat, keepIf, runStart, runEnds, runAt, runsOf, rowRuns, tidyContacts}
+use Rattle.log.specs.Tidy.{concatBelow, keepIf, runStart, runEnds, runAt, runsOf, rowRuns, tidyContacts}
 use Rattle.log.proofs.Concat.{concat-nil, keep-nil}
 
 -- how many records there are in lists one after the other
-concat-le : (m : ℕ) (f g h : ℕ → List Record) → ((i : ℕ) → i < m → length (f i) ≤ length (g i) + length (h i)) → length (concat m f) ≤ length (concat m g) + length (concat m h)
-unfolding concat
+concat-le : (m : ℕ) (f g h : ℕ → List Record) → ((i : ℕ) → i < m → length (f i) ≤ length (g i) + length (h i)) → length (concatBelow m f) ≤ length (concatBelow m g) + length (concatBelow m h)
+unfolding concatBelow
 concat-le zero f g h e = zero-le
 concat-le (suc m) f g h e =
-    omega (arith, length-append (concat m f) (f m), length-append (concat m g) (g m), length-append (concat m h) (h m), concat-le m f g h (λ i l. e i (omega arith)), e m (le-refl _))
+    omega (arith, length-append (concatBelow m f) (f m), length-append (concatBelow m g) (g m), length-append (concatBelow m h) (h m), concat-le m f g h (λ i l. e i (omega arith)), e m (le-refl _))
 
-concat-one : (m k : ℕ) (f : ℕ → List Record) → ((i : ℕ) → (i ≡ k → ⊥) → f i ≡ []) → length (f k) ≤ 1 → length (concat m f) ≤ 1
-unfolding concat
+concat-one : (m k : ℕ) (f : ℕ → List Record) → ((i : ℕ) → (i ≡ k → ⊥) → f i ≡ []) → length (f k) ≤ 1 → length (concatBelow m f) ≤ 1
+unfolding concatBelow
 concat-one zero k f e h = zero-le
 concat-one (suc m) k f e h = go (ℕ-discrete m k) (concat-one m k f e h)
   where
-    go : Dec (m ≡ k) → length (concat m f) ≤ 1 → length (concat m f ++ f m) ≤ 1
-    go (yes g) ih = omega (arith, length-append (concat m f) (f m), ap length (concat-nil m f (λ i l. e i (λ q. omega arith))), ap (λ (x : ℕ). length (f x)) g)
-    go (no g) ih = omega (arith, length-append (concat m f) (f m), ap length (e m g))
+    go : Dec (m ≡ k) → length (concatBelow m f) ≤ 1 → length (concatBelow m f ++ f m) ≤ 1
+    go (yes g) ih = omega (arith, length-append (concatBelow m f) (f m), ap length (concat-nil m f (λ i l. e i (λ q. omega arith))), ap (λ (x : ℕ). length (f x)) g)
+    go (no g) ih = omega (arith, length-append (concatBelow m f) (f m), ap length (e m g))
 
 -- a record kept by one test is kept by one of two others, if they hold where it does
 keep-le : (a b e : Bool) (c d x : Record) → (a ≡ true → (b ≡ true) ⊎ (e ≡ true)) → length (keepIf a (c ∷ [])) ≤ length (keepIf b (d ∷ [])) + length (keepIf e (x ∷ []))
@@ -58,7 +58,7 @@ keep-one false c = zero-le
 
 -- the pairs and ticks that pass a test, one record for each
 passing : ℕ → ℕ → (ℕ → ℕ → ℕ → Bool) → List Record
-passing n T p = concat n (λ u. concat n (λ v. concat T (λ t. keepIf (p u v t) (End 0 ∷ []))))
+passing n T p = concatBelow n (λ u. concatBelow n (λ v. concatBelow T (λ t. keepIf (p u v t) (End 0 ∷ []))))
 
 module _ (n T : ℕ) where
   passing-le : (p q r : ℕ → ℕ → ℕ → Bool) → ((u v t : ℕ) → p u v t ≡ true → (q u v t ≡ true) ⊎ (r u v t ≡ true)) → length (passing n T p) ≤ length (passing n T q) + length (passing n T r)
@@ -144,11 +144,11 @@ module _ (n T : ℕ) (cts : List Record) (valid : (c : Record) → Mem c cts →
               let d : Covers a b first last (suc t) u v = record { pair = c .pair; low = omega (arith, c .low); high = g } in
               absurd (f (and-in _ _ (lt-ltb _ _ h) (met-in n T cts (suc t) u v (Contact a b first last, i, covers-in d))))
 
-  pair-le : (u v : ℕ) → length (keepIf (ltb u v) (runsOf T (λ t. meet t u v) u v)) ≤ length (concat T (λ t. keepIf (closesOne cts u v t) (End 0 ∷ []))) + length (concat T (λ t. keepIf false (End 0 ∷ [])))
+  pair-le : (u v : ℕ) → length (keepIf (ltb u v) (runsOf T (λ t. meet t u v) u v)) ≤ length (concatBelow T (λ t. keepIf (closesOne cts u v t) (End 0 ∷ []))) + length (concatBelow T (λ t. keepIf false (End 0 ∷ [])))
   unfolding keepIf runsOf runAt
   pair-le u v = go (ltb u v) refl
     where
-      go : (b : Bool) → ltb u v ≡ b → length (keepIf b (runsOf T (λ t. meet t u v) u v)) ≤ length (concat T (λ t. keepIf (closesOne cts u v t) (End 0 ∷ []))) + length (concat T (λ t. keepIf false (End 0 ∷ [])))
+      go : (b : Bool) → ltb u v ≡ b → length (keepIf b (runsOf T (λ t. meet t u v) u v)) ≤ length (concatBelow T (λ t. keepIf (closesOne cts u v t) (End 0 ∷ []))) + length (concatBelow T (λ t. keepIf false (End 0 ∷ [])))
       go true e = concat-le T _ _ _ (λ t k. keep-le (runEnds T (λ t. meet t u v) t) (closesOne cts u v t) false (Contact u v (runStart (λ t. meet t u v) t) t) (End 0) (End 0) (λ f. inl (end-closed u v t (ltb-true _ _ e) f)))
       go false e = zero-le
 

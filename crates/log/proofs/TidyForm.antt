@@ -16,7 +16,7 @@ use Rattle.records.specs.Meaning.{covers}
 use Rattle.records.specs.Logs.{Mem, Met}
 use Rattle.records.proofs.Judged.{valid-in}
 use Rattle.records.proofs.Meaning.{Covers, covers-of, covers-in, covers-swap}
-use Rattle.log.specs.Tidy.{Run, IsRun, smallerOf, largerOf, firstOf, Before, by-smaller, by-larger, by-first, Sorted, nothing, followed, IsTidy, concat, keepIf, runStart, runEnds, runAt, runsOf, rowRuns, tidyContacts}
+use Rattle.log.specs.Tidy.{Run, IsRun, smallerOf, largerOf, firstOf, Before, by-smaller, by-larger, by-first, Sorted, nothing, followed, IsTidy, concatBelow, keepIf, runStart, runEnds, runAt, runsOf, rowRuns, tidyContacts}
 use Rattle.log.proofs.Concat.{in-concat, of-concat, in-keep, of-keep}
 use Rattle.log.proofs.Runs.{run-of, of-run, in-run, run-gap, run-meet}
 
@@ -73,8 +73,8 @@ sorted-append {ys} (followed {c = c} {cs = cs} f p) q h = followed (λ d m. go d
     go d (inr m) = h c d (List·Memᴰ·head refl) m
 
 sorted-concat : (m : ℕ) (f : ℕ → List Record) → ((i : ℕ) → i < m → Sorted (f i))
-    → ((i j : ℕ) (c d : Record) → i < j → j < m → Mem c (f i) → Mem d (f j) → Before c d) → Sorted (concat m f)
-unfolding concat
+    → ((i j : ℕ) (c d : Record) → i < j → j < m → Mem c (f i) → Mem d (f j) → Before c d) → Sorted (concatBelow m f)
+unfolding concatBelow
 sorted-concat zero f s g = nothing
 sorted-concat (suc m) f s g = sorted-append (sorted-concat m f (λ i h. s i (omega arith)) (λ i j c d l k. g i j c d l (omega arith))) (s m (le-refl _))
     (λ c d x y. let z = of-concat m f x in g (z .0) m c d (z .1) (le-refl _) (z .2) y)

@@ -22,7 +22,7 @@ use Rattle.records.specs.Meaning.{covers, inContact}
 use Rattle.records.specs.Logs.{Mem, logRecords, IsLog}
 use Rattle.records.proofs.Outcomes.{refused-success, success-same}
 use Rattle.log.specs.Days.{neighbours}
-use Rattle.log.specs.Tidy.{concat, keepIf, runStart, runEnds, runAt, runsOf, rowRuns, tidyContacts, tidyLog}
+use Rattle.log.specs.Tidy.{concatBelow, keepIf, runStart, runEnds, runAt, runsOf, rowRuns, tidyContacts, tidyLog}
 use Rattle.log.specs.Calls.{Read, Tidied}
 use Rattle.log.specs.Tidying.{SameMeaning, HasTidied, FoundShort, Tidies}
 use Rattle.log.proofs.TidyForm.{tidy-unique}
@@ -92,7 +92,7 @@ promised-bytes p log n T cts l =
 
 -- all that the examples compute with
 computing : ℕ
-unfolding meeting never once twice _and_ _or_ isnt littleEndian fieldsOf encode encodeAll covers inContact logRecords concat keepIf runStart runEnds runAt runsOf rowRuns tidyContacts tidyLog
+unfolding meeting never once twice _and_ _or_ isnt littleEndian fieldsOf encode encodeAll covers inContact logRecords concatBelow keepIf runStart runEnds runAt runsOf rowRuns tidyContacts tidyLog
 computing = 0
 
 -- the last four bytes of a tidied log, which are its ED count

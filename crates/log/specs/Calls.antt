@@ -6,13 +6,13 @@ use lib.Dec.{ltb}
 use lib.ListN.{length, drop}
 use Rattle.sets.specs.Bools.{isnt}
 use Rattle.records.specs.declared.record.Record.{Record}
-use Rattle.log.specs.declared.checking.Checked.{Checked}
-use Rattle.log.specs.declared.checking.Checked.the-variants as c
 use Rattle.records.specs.Limits.{maxContacts, withinLimits, wordsFor}
 use Rattle.records.specs.Outcomes.{Outcome, refused, success, refuseIf, andThen, refusedBy}
 use Rattle.records.specs.Judging.{judge}
 use Rattle.records.specs.Meaning.{badgesOf, ticksOf, inContact}
 use Rattle.records.specs.Verdicts.{Values, valuesOf}
+use Rattle.log.specs.declared.checking.Checked.{Checked}
+use Rattle.log.specs.declared.checking.Checked.the-variants as c
 use Rattle.log.specs.declared.writing.Written.{Written}
 use Rattle.log.specs.declared.writing.Written.the-variants as w
 use Rattle.log.specs.Days.{dayOf, isDay, adjacent}

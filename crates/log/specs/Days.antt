@@ -1,12 +1,13 @@
 -- The day in words: "word t×n+u has bit v set exactly when u and v are in contact in tick t".
 -- (A day is a temporal graph over T timestamps; the words of one tick are a snapshot's adjacency rows.)
 use mathlib.Core.Bool.{Bool}
-use mathlib.Core.List.{List, [], _∷_, _++_}
+use mathlib.Core.List.{List, [], _++_}
 use Prim.Native.Nat.{ℕ, zero, suc, _+_, _*_, _^_, _<_}
 use lib.Dec.{ltb}
 use lib.ListN.{getD}
 use Rattle.sets.specs.Bools.{_and_, _or_, isnt, all}
 use Rattle.sets.specs.Sets.{In, has, setOf}
+use Rattle.sets.specs.Tables.{tabulate}
 use Rattle.records.specs.declared.record.Record.{Record}
 use Rattle.records.specs.Meaning.{badgesOf, ticksOf, inContact}
 
@@ -17,11 +18,6 @@ neighbours n ws t u = getD ws (t * n + u) 0
 -- u and v are in contact in tick t, by the words
 unfoldable pub adjacent : ℕ → List ℕ → ℕ → ℕ → ℕ → Bool
 adjacent n ws t u v = has (neighbours n ws t u) v
-
--- a list by its elements
-unfoldable pub tabulate : ℕ → (ℕ → ℕ) → List ℕ
-tabulate zero f = []
-tabulate (suc m) f = tabulate m f ++ f m ∷ []
 
 -- the words of one tick: for each badge, those that a relation joins to it
 unfoldable pub tickWords : ℕ → (ℕ → ℕ → Bool) → List ℕ

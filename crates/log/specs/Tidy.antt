@@ -60,9 +60,9 @@ pub record IsTidy (n T : ℕ) (meet : ℕ → ℕ → ℕ → Type 0) (cts : Lis
   pub sorted : Sorted cts
 
 -- The same as a list that is worked out. The lists of 0 to m - 1, one after the other:
-unfoldable pub concat : ℕ → (ℕ → List Record) → List Record
-concat zero f = []
-concat (suc m) f = concat m f ++ f m
+unfoldable pub concatBelow : ℕ → (ℕ → List Record) → List Record
+concatBelow zero f = []
+concatBelow (suc m) f = concatBelow m f ++ f m
 
 -- a list where a test holds, and nothing where it does not
 unfoldable pub keepIf : Bool → List Record → List Record
@@ -83,14 +83,14 @@ unfoldable pub runAt : ℕ → (ℕ → Bool) → ℕ → ℕ → ℕ → List R
 runAt T p u v t = keepIf (runEnds T p t) (Contact u v (runStart p t) t ∷ [])
 
 unfoldable pub runsOf : ℕ → (ℕ → Bool) → ℕ → ℕ → List Record
-runsOf T p u v = concat T (runAt T p u v)
+runsOf T p u v = concatBelow T (runAt T p u v)
 
 -- the runs of u, as the smaller badge, and those of all n badges; r t u v says whether u and v are in contact in tick t
 unfoldable pub rowRuns : ℕ → ℕ → (ℕ → ℕ → ℕ → Bool) → ℕ → List Record
-rowRuns n T r u = concat n (λ v. keepIf (ltb u v) (runsOf T (λ t. r t u v) u v))
+rowRuns n T r u = concatBelow n (λ v. keepIf (ltb u v) (runsOf T (λ t. r t u v) u v))
 
 unfoldable pub tidyContacts : ℕ → ℕ → (ℕ → ℕ → ℕ → Bool) → List Record
-tidyContacts n T r = concat n (rowRuns n T r)
+tidyContacts n T r = concatBelow n (rowRuns n T r)
 
 -- the tidy log of a day
 unfoldable pub tidyLog : ℕ → ℕ → (ℕ → ℕ → ℕ → Bool) → List ℕ

@@ -1,7 +1,7 @@
 // Contact logs, and the day that they say, in words that the host lends.
 //
 // `read` takes a log into day words, `write` takes day words to their tidy log, and `tidy` takes a log to its tidy log; `check_words` is
-// the check that every call on words begins with. Nothing here knows of groups.
+// the check that every call on words begins with, and `deliver` puts an answer into the buffer that is lent. Nothing here knows of groups.
 mod checking;
 mod day;
 mod encoding;
@@ -17,4 +17,5 @@ pub use records::Refusal;
 pub use records::Verdict;
 pub use tidying::tidy;
 pub use writing::Written;
+pub use writing::deliver;
 pub use writing::write;

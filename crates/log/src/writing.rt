@@ -3,7 +3,7 @@ ghost use mathlib.Core.Path.{_≡_};
 ghost use Prim.Native.Nat.{_≤_};
 ghost use lib.ListN.{length};
 ghost use Rattle.records.specs.Limits.{maxLogBytes};
-ghost use Rattle.records.specs.Outcomes.{numberOf, offsetOf};
+ghost use Rattle.records.specs.Outcomes.{success, numberOf, offsetOf};
 ghost use Rattle.log.specs.Days.{adjacent};
 ghost use Rattle.log.specs.Buffers.{deliver};
 ghost use Rattle.log.specs.Writing.{Writable, Encodes};
@@ -21,6 +21,19 @@ use records::Refusal;
 pub enum Written {
     Bytes(usize),
     Refused(Refusal),
+}
+
+// Puts an answer, in its bytes, into the buffer that is lent, if the buffer holds it. Refused by 9, and then no byte is changed; bytes after
+// the answer are never touched.
+pub fn deliver(bytes: &[u8], buffer: &mut [u8]) -> Written
+    ensures answer { λ r. ⌜ writtenOutcome r ≡ deliver (success (now (bytes .entry))) (now (buffer .entry)) .answer ⌝ }
+    ensures leaves { λ _. ⌜ now (buffer .exit) ≡ deliver (success (now (bytes .entry))) (now (buffer .entry)) .buffer ⌝ }
+{
+    if buffer.len() < bytes.len() {
+        return Written::Refused(Refusal::BufferTooShort);
+    }
+    put(buffer, 0, bytes);
+    Written::Bytes(bytes.len())
 }
 
 // Encodes the tidy log of a day's words in a buffer that holds any log, and answers how many contact records it has: 8,001 stands for too
@@ -73,12 +86,7 @@ pub(crate) fn deliver_log(
     if count > MAX_CONTACTS {
         return Written::Refused(too_many);
     }
-    let size = 10 + 6 * count;
-    if buffer.len() < size {
-        return Written::Refused(Refusal::BufferTooShort);
-    }
-    put(buffer, 0, &log[..size]);
-    Written::Bytes(size)
+    deliver(&log[..10 + 6 * count], buffer)
 }
 
 // Writes a day's words as a tidy log into the buffer that is lent, and answers the number of bytes. Refused by 10, 8, 11, 15 and 9, in that

@@ -5,3 +5,5 @@ pub mod Sets
 pub mod Size
 pub mod Smallest
 pub mod Bytes
+pub mod Tables
+pub mod Walks

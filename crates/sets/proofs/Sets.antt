@@ -3,14 +3,15 @@
 use mathlib.Core.Path.{_≡_, refl, sym, ap, _∙_, subst}
 use mathlib.Core.Bool.{Bool, true, false}
 use mathlib.Core.Logic.{_⊎_, inl, inr}
-use Prim.Native.Nat.{ℕ, zero, suc, _*_, _/_, _%_, _^_, _≤_, _<_, zero-le, suc-le-suc}
-use native.Mathlib.Nat.{le-refl, mod-lt, zero-lt-suc, pow-suc, le-of-suc-le-suc, not-suc-le-zero}
+use Prim.Native.Nat.{ℕ, zero, suc, _+_, _*_, _/_, _%_, _^_, _≤_, _<_, zero-le, suc-le-suc}
+use native.Mathlib.Nat.{le-refl, mod-lt, zero-lt-suc, pow-suc, le-of-suc-le-suc, not-suc-le-zero, zero-mul}
 use native.Mathlib.Decide.{ℕ-discrete}
 use native.Mathlib.Omega.{arith}
 use lib.Arith.{bin-ind, digits-div, digits-mod, lt-one}
 use borrow.Author.Tests.{eqb-true, eqb-false, eq-eqb, lt-ltb, le-ltb}
-use Rattle.sets.specs.Sets.{bit, In, has, Sub, isSub, intersection, union, difference, only, digit, setOf, full}
+use Rattle.sets.specs.Sets.{bit, In, has, Sub, isSub, intersection, union, difference, only, digit, setOf, filterIn, filter, full}
 use Rattle.sets.specs.Members.{capacity, insert}
+use Rattle.sets.proofs.Bools.{clash}
 use Rattle.sets.proofs.Bits.{bit-lt, bit-zero, bit-suc, bit-none, bit-and, bit-or, bit-sub}
 
 -- the test for membership passes exactly when the badge is a member
@@ -145,6 +146,56 @@ lt-of-members (suc n) s h =
 pub of-set-lt : (n : ℕ) (p : ℕ → Bool) (u : ℕ) → In (setOf n p) u → u < n
 of-set-lt n p u i = in-lt n (setOf n p) u (set-lt n p) i
 
+-- the members of s that pass a test: digit by digit, where there are digits enough, and as a whole
+filter-none : (d : ℕ) (p : ℕ → Bool) → filterIn d p 0 ≡ 0
+unfolding filterIn
+filter-none zero p = refl
+filter-none (suc d) p = refl
+
+low-lt : (x : ℕ) (b : Bool) → x % 2 * digit b < 2
+low-lt x true = omega (arith, mod-lt x (zero-lt-suc 1))
+low-lt x false = omega arith
+
+filter-bit-zero : (d : ℕ) (p : ℕ → Bool) (s : ℕ) → bit (filterIn (suc d) p s) 0 ≡ s % 2 * digit (p zero)
+unfolding filterIn
+filter-bit-zero d p zero = bit-none 0 ∙ sym (zero-mul (digit (p zero)))
+filter-bit-zero d p (suc s) = bit-zero _ ∙ digits-mod (filterIn d (λ u. p (suc u)) (suc s / 2)) (low-lt (suc s) (p zero))
+
+filter-bit-suc : (d : ℕ) (p : ℕ → Bool) (s u : ℕ) → bit (filterIn (suc d) p s) (suc u) ≡ bit (filterIn d (λ u. p (suc u)) (s / 2)) u
+unfolding filterIn
+filter-bit-suc d p zero u = bit-suc 0 u ∙ ap (λ (x : ℕ). bit x u) (sym (filter-none d (λ u. p (suc u))))
+filter-bit-suc d p (suc s) u = bit-suc _ u ∙ ap (λ (x : ℕ). bit x u) (digits-div (filterIn d (λ u. p (suc u)) (suc s / 2)) (low-lt (suc s) (p zero)))
+
+in-filter-in : (d : ℕ) (p : ℕ → Bool) (s u : ℕ) → s ≤ d → In s u → p u ≡ true → In (filterIn d p s) u
+in-filter-in zero p s u h i e = absurd (not-in-none u (let z : s ≡ 0 = omega arith in rw z at i))
+in-filter-in (suc d) p s zero h i e = filter-bit-zero d p s ∙ rw e (omega (arith, bit-zero s))
+in-filter-in (suc d) p s (suc u) h i e =
+    filter-bit-suc d p s u ∙ in-filter-in d (λ u. p (suc u)) (s / 2) u (omega arith) (sym (bit-suc s u) ∙ i) e
+
+of-filter-in : (d : ℕ) (p : ℕ → Bool) (s u : ℕ) → In (filterIn d p s) u → In s u × (p u ≡ true)
+unfolding filterIn
+of-filter-in zero p s u i = absurd (not-in-none u i)
+of-filter-in (suc d) p s zero i = go (p zero) refl (sym (filter-bit-zero d p s) ∙ i)
+  where
+    go : (b : Bool) → p zero ≡ b → s % 2 * digit (p zero) ≡ 1 → In s 0 × (p zero ≡ true)
+    go true e f = let g : s % 2 * 1 ≡ 1 = rw e at f in (bit-zero s ∙ omega arith, e)
+    go false e f = let g : s % 2 * 0 ≡ 1 = rw e at f in absurd (omega arith)
+of-filter-in (suc d) p s (suc u) i =
+    let r = of-filter-in d (λ u. p (suc u)) (s / 2) u (sym (filter-bit-suc d p s u) ∙ i) in
+    (bit-suc s u ∙ r .0, r .1)
+
+pub in-filter : (p : ℕ → Bool) (s u : ℕ) → In s u → p u ≡ true → In (filter p s) u
+unfolding filter
+in-filter p s u i e = in-filter-in s p s u (le-refl s) i e
+
+pub of-filter : (p : ℕ → Bool) (s u : ℕ) → In (filter p s) u → In s u × (p u ≡ true)
+unfolding filter
+of-filter p s u i = of-filter-in s p s u i
+
+-- a subset of a set of numbers below n is one, too
+pub sub-lt : (n s t : ℕ) → Sub s t → t < 2 ^ n → s < 2 ^ n
+sub-lt n s t h w = lt-of-members n s (λ u i. in-lt n t u w (h .at u i))
+
 -- every set is a subset of itself, a subset's subset is a subset, and the empty set is a subset of every set
 pub sub-refl : (s : ℕ) → Sub s s
 sub-refl s = record { at = λ u i. i }
@@ -187,6 +238,36 @@ sub-antisym = bin-ind (λ (s : ℕ). (t : ℕ) → Sub s t → Sub t s → s ≡
 
 pub ext : (s t : ℕ) → ((u : ℕ) → In s u → In t u) → ((u : ℕ) → In t u → In s u) → s ≡ t
 ext s t f g = sub-antisym s t (record { at = f }) (record { at = g })
+
+-- the numbers below n + 1 that pass a test are those below n, with n where it passes
+module _ (n : ℕ) (p : ℕ → Bool) where
+  set-grows : (u : ℕ) → In (setOf n p) u → In (setOf (n + 1) p) u
+  set-grows u i = in-set (n + 1) p u (omega (arith, of-set-lt n p u i)) (of-set n p u i)
+
+  set-split : (u : ℕ) → In (setOf (n + 1) p) u → In (setOf n p) u ⊎ (u ≡ n)
+  set-split u i = go (ℕ-discrete u n)
+    where
+      go : Dec (u ≡ n) → In (setOf n p) u ⊎ (u ≡ n)
+      go (yes e) = inr e
+      go (no f) = inl (in-set n p u (omega (arith, of-set-lt (n + 1) p u i)) (of-set (n + 1) p u i))
+
+  pub set-yes : p n ≡ true → union (setOf n p) (only n) ≡ setOf (n + 1) p
+  set-yes e = ext _ _ (λ u i. to u (of-union _ _ u i)) (λ u i. back u (set-split u i))
+    where
+      to : (u : ℕ) → In (setOf n p) u ⊎ In (only n) u → In (setOf (n + 1) p) u
+      to u (inl i) = set-grows u i
+      to u (inr i) = let f : u ≡ n = of-only n u i in rw f (in-set (n + 1) p n (omega arith) e)
+
+      back : (u : ℕ) → In (setOf n p) u ⊎ (u ≡ n) → In (union (setOf n p) (only n)) u
+      back u (inl i) = in-union-left _ _ u i
+      back u (inr f) = rw f (in-union-right (setOf n p) (only n) n (in-only n))
+
+  pub set-no : p n ≡ false → setOf n p ≡ setOf (n + 1) p
+  set-no e = ext _ _ set-grows (λ u i. back u i (set-split u i))
+    where
+      back : (u : ℕ) → In (setOf (n + 1) p) u → In (setOf n p) u ⊎ (u ≡ n) → In (setOf n p) u
+      back u i (inl j) = j
+      back u i (inr f) = absurd (clash (of-set (n + 1) p u i) (rw f e))
 
 -- an intersection of subsets is a subset of the intersection
 pub intersection-mono : {a b c d : ℕ} → Sub a c → Sub b d → Sub (intersection a b) (intersection c d)

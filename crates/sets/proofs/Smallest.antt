@@ -1,6 +1,6 @@
 -- Laws of the smallest member of a set below w: it is a member and no other is smaller; it is the number of trailing zeros.
 use mathlib.Core.Path.{_≡_, refl, sym, _∙_}
-use Prim.Native.Nat.{ℕ, zero, suc, _/_, _%_, _≤_, _<_}
+use Prim.Native.Nat.{ℕ, zero, suc, _/_, _%_, _^_, _≤_, _<_}
 use native.Mathlib.Nat.{le-of-suc-le-suc, not-suc-le-zero, mod-lt, zero-lt-suc}
 use native.Mathlib.Decide.{ℕ-discrete}
 use native.Mathlib.Omega.{arith}
@@ -8,7 +8,7 @@ use lib.Count.{under, trailingZeros, trailing-le, trailing-of-zero}
 use borrow.Author.Tests.{ne-eqb}
 use Rattle.sets.specs.Sets.{bit, In, smallest}
 use Rattle.sets.proofs.Bits.{bit-zero, bit-suc}
-use Rattle.sets.proofs.Sets.{has-test}
+use Rattle.sets.proofs.Sets.{has-test, some, in-lt}
 
 -- the smallest member of a set that has badge 0, and of one that does not
 smallest-yes : (w s : ℕ) → In s 0 → smallest (suc w) s ≡ 0
@@ -55,3 +55,10 @@ smallest-first (suc w) s (suc u) i h = go (smallest-first w (s / 2) u (sym (bit-
     go : smallest w (s / 2) ≤ u → Dec (bit s 0 ≡ 1) → smallest (suc w) s ≤ suc u
     go ih (yes j) = omega (arith, smallest-yes w s j)
     go ih (no f) = omega (arith, smallest-no w s f)
+
+-- so a set below 2 ^ w that is not empty has it as a member, and it is below w
+pub smallest-member : (w s : ℕ) → s < 2 ^ w → (s ≡ 0 → ⊥) → In s (smallest w s) × (smallest w s < w)
+smallest-member w s h f =
+    let m = some s f in
+    let l : smallest w s < w = omega (arith, smallest-first w s (m .0) (m .1) (in-lt w s (m .0) h (m .1)), in-lt w s (m .0) h (m .1)) in
+    (smallest-in w s l, l)

@@ -2,4 +2,5 @@
 pub mod Bools
 pub mod Sets
 pub mod Bytes
+pub mod Tables
 pub mod Members

@@ -1,6 +1,6 @@
 -- What a BadgeSet of the program stands for. Contracts name `members` and never the field, so a wider set changes this file alone.
-use Prim.Native.Nat.{ℕ}
 use mathlib.Core.Bool.{true, false}
+use Prim.Native.Nat.{ℕ}
 use lib.Dec.{ltb}
 use Rattle.sets.specs.declared.BadgeSet.{BadgeSet}
 use Rattle.sets.specs.Sets.{union, only}

@@ -1,9 +1,9 @@
 -- `checking::check_words` meets its contract: each of its answers is one law of the check.
-use borrow.Author.Needs.{needs}
-use borrow.Author.Tests.{not-true, not-false}
 use mathlib.Core.Bool.{true}
 use mathlib.Core.Path.{_≡_, sym, _∙_}
 use native.Mathlib.Omega.{arith}
+use borrow.Author.Needs.{needs}
+use borrow.Author.Tests.{not-true, not-false}
 use Rattle.sets.proofs.Bools.{clash}
 use Rattle.records.specs.Limits.{withinLimits}
 use Rattle.records.proofs.WithinLimits.{limits-of, words-most}

@@ -1,14 +1,14 @@
 -- `checking::is_day` meets its contract. The ticks passed are those of a day; in the tick at hand, all members of the rows passed are
 -- valid neighbours; in the row at hand, all that are no longer unseen are. The walk over a row ends as its unseen members get fewer.
-use borrow.Author.Needs.{needs}
-use borrow.Author.Tests.{not-true, not-false, eqb-true, eqb-false}
-use borrow.Author.Count.{below-none, below-more}
 use mathlib.Core.Bool.{true, false}
 use mathlib.Core.List.{List}
 use mathlib.Core.Path.{_≡_, refl, sym, ap, _∙_}
 use Prim.Native.Nat.{ℕ, _+_, _*_, _-_, _^_, _≤_, _<_}
 use native.Mathlib.Omega.{arith}
 use lib.ListN.{length}
+use borrow.Author.Needs.{needs}
+use borrow.Author.Tests.{not-true, not-false, eqb-true, eqb-false}
+use borrow.Author.Count.{below-none, below-more}
 use Rattle.sets.specs.Sets.{In, has, size}
 use Rattle.sets.specs.Members.{capacity, members}
 use Rattle.sets.proofs.Sets.{in-test, out-test}

@@ -1,11 +1,11 @@
 -- clear meets its contract: after i turns the first i words are zero and the others as they were.
-use borrow.Author.Needs.{needs}
-use borrow.Author.Fill.{fill-none, fill-more}
-use native.Mathlib.Omega.{arith}
 use mathlib.Core.Path.{_≡_, refl, ap, _∙_}
 use mathlib.Core.List.{List, _++_}
 use Prim.Native.Nat.{ℕ, _-_, _≤_}
+use native.Mathlib.Omega.{arith}
 use lib.ListN.{length, set, drop, replicate, length-set}
+use borrow.Author.Needs.{needs}
+use borrow.Author.Fill.{fill-none, fill-more}
 use Rattle.log.proofs.day.clear.Statement.{statement}
 use Rattle.log.proofs.day.clear.Tie as tie
 

@@ -1,18 +1,18 @@
 -- `fill` meets its contract: at each turn the words hold the records before the place reached, and the bytes from there on are the others.
-use borrow.Author.Needs.{needs}
 use mathlib.Core.Path.{_≡_, refl, sym, ap, _∙_, subst}
 use mathlib.Core.List.{List, _++_}
 use Prim.Native.Nat.{ℕ, _+_, _-_, _≤_}
 use native.Mathlib.Omega.{arith}
 use lib.ListN.{length, drop}
-use Rattle.records.specs.Limits.{wordsFor}
+use borrow.Author.Needs.{needs}
 use Rattle.sets.specs.Bytes.{Bytes}
+use Rattle.records.specs.Limits.{wordsFor}
 use Rattle.records.specs.declared.record.Decoded.the-variants as d
 use Rattle.records.specs.Records.{sizeOf, kindOf, decode}
-use Rattle.log.specs.Days.{dayOf}
-use Rattle.log.specs.Filling.{Admissible}
 use Rattle.records.proofs.Records.{size-pos}
 use Rattle.records.proofs.Verdicts.{rest-is}
+use Rattle.log.specs.Days.{dayOf}
+use Rattle.log.specs.Filling.{Admissible}
 use Rattle.log.proofs.Filled.{Filling, filling-start, cleared-rest, fitting, whole-part, whole-only, Found, found, filling-done}
 use Rattle.log.proofs.day.fill.Statement.{statement}
 use Rattle.log.proofs.day.fill.Tie as tie

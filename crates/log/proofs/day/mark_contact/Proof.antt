@@ -1,8 +1,8 @@
 -- mark_contact meets its contract: before tick t of the loop the contact's ticks before t are marked.
-use borrow.Author.Needs.{needs}
 use Prim.Native.Nat.{_-_}
 use native.Mathlib.Omega.{arith}
 use lib.ListN.{length}
+use borrow.Author.Needs.{needs}
 use Rattle.log.proofs.Marking.{Marking, marking-none, marking-more, marking-done, pair-fits}
 use Rattle.log.proofs.day.mark_contact.Statement.{statement}
 use Rattle.log.proofs.day.mark_contact.Tie as tie

@@ -1,13 +1,13 @@
 -- mark_pair meets its contract: each of its two stores marks one badge.
-use native.Mathlib.Omega.{arith}
 use mathlib.Core.Path.{ap, _∙_}
 use mathlib.Core.List.{List}
 use Prim.Native.Nat.{ℕ, _+_, _*_}
+use native.Mathlib.Omega.{arith}
 use lib.ListN.{set, length-set}
+use borrow.Author.Needs.{needs}
 use Rattle.sets.specs.Members.{insert}
 use Rattle.log.specs.Filling.{marked}
 use Rattle.log.proofs.Marking.{store-marked}
-use borrow.Author.Needs.{needs}
 use Rattle.log.proofs.day.mark_pair.Statement.{statement}
 use Rattle.log.proofs.day.mark_pair.Tie as tie
 

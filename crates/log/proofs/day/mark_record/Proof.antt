@@ -1,11 +1,11 @@
 -- mark_record meets its contract: a contact by mark_contact, and any other record because it covers nothing.
 use mathlib.Core.Path.{sym, ap, subst}
 use lib.ListN.{length}
+use borrow.Author.Needs.{needs}
 use Rattle.records.specs.declared.record.Record.{Record}
 use Rattle.records.specs.Meaning.{covers}
 use Rattle.log.specs.Filling.{Fitting, Marks}
 use Rattle.log.proofs.Marking.{marks-none}
-use borrow.Author.Needs.{needs}
 use Rattle.log.proofs.day.mark_record.Statement.{statement}
 use Rattle.log.proofs.day.mark_record.Tie as tie
 

@@ -1,7 +1,7 @@
 -- append_contact meets its contract.
 use native.Mathlib.Omega.{arith}
-use Rattle.log.proofs.Appending.{appends-full, appends-contact}
 use borrow.Author.Needs.{needs}
+use Rattle.log.proofs.Appending.{appends-full, appends-contact}
 use Rattle.log.proofs.encoding.append_contact.Statement.{statement}
 use Rattle.log.proofs.encoding.append_contact.Tie as tie
 

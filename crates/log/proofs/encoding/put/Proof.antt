@@ -1,12 +1,12 @@
 -- put meets its contract: after i turns the first i bytes are copied.
-use borrow.Author.Needs.{needs}
-use native.Mathlib.Omega.{arith}
-use native.Mathlib.Numerals.{add-one}
 use mathlib.Core.Path.{_≡_, refl, sym, ap, _∙_}
 use mathlib.Core.List.{List}
 use Prim.Native.Nat.{ℕ, _+_, _-_, _≤_}
+use native.Mathlib.Omega.{arith}
+use native.Mathlib.Numerals.{add-one}
 use lib.ListN.{length, set, getD, length-set}
 use lib.Seq.{paste, paste-zero, paste-suc}
+use borrow.Author.Needs.{needs}
 use Rattle.log.proofs.Delivering.{overwrite-paste}
 use Rattle.log.proofs.encoding.put.Statement.{statement}
 use Rattle.log.proofs.encoding.put.Tie as tie

@@ -1,10 +1,10 @@
 -- put_record meets its contract: in each case the array that is put is the record in its bytes.
 use mathlib.Core.Path.{sym, ap, _∙_}
+use borrow.Author.Needs.{needs}
 use Rattle.sets.specs.Bytes.{littleEndian}
 use Rattle.records.specs.declared.record.Record.{Record}
 use Rattle.records.specs.Records.{fieldsOf, encode}
 use Rattle.log.specs.Buffers.{overwrite}
-use borrow.Author.Needs.{needs}
 use Rattle.log.proofs.encoding.put_record.Statement.{statement}
 use Rattle.log.proofs.encoding.put_record.Tie as tie
 

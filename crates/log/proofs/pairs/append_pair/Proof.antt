@@ -1,17 +1,17 @@
 -- append_pair meets its contract: before tick t of the loop the runs that end before t are appended, and the run that leads up to t begins
 -- at start. A badge outside the united set has no run with u.
-use borrow.Author.Needs.{needs}
-use borrow.Author.Tests.{not-true}
-use native.Mathlib.Omega.{arith}
 use mathlib.Core.Bool.{Bool, false}
 use mathlib.Core.Path.{_≡_, refl, sym, ap, _∙_}
 use Prim.Native.Nat.{ℕ, _-_, _≤_}
+use native.Mathlib.Omega.{arith}
 use lib.Dec.{ltb}
 use lib.ListN.{length}
+use borrow.Author.Needs.{needs}
+use borrow.Author.Tests.{not-true}
 use Rattle.sets.specs.Bools.{_and_}
 use Rattle.sets.specs.Sets.{has}
 use Rattle.log.specs.Days.{adjacent}
-use Rattle.log.specs.Tidy.{concat, runStart, runAt, runsOf}
+use Rattle.log.specs.Tidy.{concatBelow, runStart, runAt, runsOf}
 use Rattle.log.specs.Writing.{Appends, unitedOf}
 use Rattle.log.proofs.Runs.{start-le}
 use Rattle.log.proofs.Appending.{appends-none, never-met, runs-more, start-more}
@@ -21,7 +21,7 @@ use Rattle.log.proofs.pairs.append_pair.Tie as tie
 abbrev Inv-loop : tie.InvT-loop
 Inv-loop words n ticks u v buffer₀ count so-far₀ start₀ met₀ t₀ buffer so-far start met t =
     (t ≤ ticks) × (length buffer ≡ length buffer₀) × (start ≡ runStart (λ t. adjacent n words t u v) t) × (met ≡ (ltb t ticks and adjacent n words t u v))
-    × Appends (concat t (runAt ticks (λ t. adjacent n words t u v) u v)) count so-far buffer₀ buffer
+    × Appends (concatBelow t (runAt ticks (λ t. adjacent n words t u v) u v)) count so-far buffer₀ buffer
 
 abbrev μ-loop : tie.MeasureT-loop
 μ-loop words n ticks u v buffer₀ count so-far₀ start₀ met₀ t₀ buffer so-far start met t = ticks - t
@@ -40,7 +40,7 @@ meets-requires : tie.Need-meets-requires Inv-loop μ-loop
 meets-requires c κs = search needs
 
 loop-holds : tie.Need-loop-holds Inv-loop μ-loop
-unfolding runStart concat
+unfolding runStart concatBelow
 loop-holds c = (search needs, refl, refl, c .meets .ensures, appends-none _ _ (omega arith))
 
 add-meets : tie.Need-add-meets Inv-loop μ-loop

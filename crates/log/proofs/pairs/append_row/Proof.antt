@@ -1,11 +1,11 @@
 -- append_row meets its contract: before badge v of the loop the runs of u and the larger badges before v are appended.
-use borrow.Author.Needs.{needs}
-use native.Mathlib.Omega.{arith}
 use mathlib.Core.Path.{_≡_, refl}
 use Prim.Native.Nat.{_-_, _≤_}
+use native.Mathlib.Omega.{arith}
 use lib.ListN.{length}
+use borrow.Author.Needs.{needs}
 use Rattle.log.specs.Days.{adjacent}
-use Rattle.log.specs.Tidy.{concat, rowRuns}
+use Rattle.log.specs.Tidy.{concatBelow, rowRuns}
 use Rattle.log.specs.Writing.{Appends}
 use Rattle.log.proofs.Appending.{appends-none, largerRuns, row-none, row-more}
 use Rattle.log.proofs.pairs.append_row.Statement.{statement}
@@ -13,7 +13,7 @@ use Rattle.log.proofs.pairs.append_row.Tie as tie
 
 abbrev Inv-loop : tie.InvT-loop
 Inv-loop words n ticks u buffer₀ count united so-far₀ larger v₀ buffer so-far v =
-    (larger ≤ v) × (v ≤ n) × (length buffer ≡ length buffer₀) × Appends (concat v (largerRuns ticks (adjacent n words) u)) count so-far buffer₀ buffer
+    (larger ≤ v) × (v ≤ n) × (length buffer ≡ length buffer₀) × Appends (concatBelow v (largerRuns ticks (adjacent n words) u)) count so-far buffer₀ buffer
 
 abbrev μ-loop : tie.MeasureT-loop
 μ-loop words n ticks u buffer₀ count united so-far₀ larger v₀ buffer so-far v = n - v

@@ -1,12 +1,12 @@
 -- append_run meets its contract: a run ends in the last tick where the pair meets in it and not in the tick after.
-use borrow.Author.Tests.{not-true, not-false}
-use native.Mathlib.Omega.{arith}
 use mathlib.Core.Path.{_≡_}
 use mathlib.Core.Bool.{true, false}
+use native.Mathlib.Omega.{arith}
+use borrow.Author.Tests.{not-true, not-false}
+use borrow.Author.Needs.{needs}
 use Rattle.sets.specs.Bools.{_and_, isnt}
 use Rattle.log.specs.Tidy.{keepIf}
 use Rattle.log.proofs.Appending.{appends-none}
-use borrow.Author.Needs.{needs}
 use Rattle.log.proofs.pairs.append_run.Statement.{statement}
 use Rattle.log.proofs.pairs.append_run.Tie as tie
 

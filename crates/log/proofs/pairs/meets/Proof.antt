@@ -1,13 +1,13 @@
 -- `meets` meets its contract: the word that is read is u's in tick t.
-use borrow.Author.Tests.{lt-ltb, le-ltb}
-use native.Mathlib.Omega.{arith}
 use mathlib.Core.Path.{ap, _∙_}
 use Prim.Native.Nat.{ℕ, _+_, _*_, _≤_}
+use native.Mathlib.Omega.{arith}
+use borrow.Author.Tests.{lt-ltb, le-ltb}
+use borrow.Author.Needs.{needs}
 use Rattle.sets.specs.Bools.{_and_}
 use Rattle.sets.specs.Sets.{has}
 use Rattle.log.specs.Days.{neighbours, adjacent}
 use Rattle.log.proofs.Days.{tick-fits}
-use borrow.Author.Needs.{needs}
 use Rattle.log.proofs.pairs.meets.Statement.{statement}
 use Rattle.log.proofs.pairs.meets.Tie as tie
 

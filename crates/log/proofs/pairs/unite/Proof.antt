@@ -1,10 +1,10 @@
 -- unite meets its contract: before tick t of the loop the neighbours in the ticks before t are united.
-use borrow.Author.Needs.{needs}
-use native.Mathlib.Omega.{arith}
 use mathlib.Core.Path.{_≡_, refl, ap, _∙_}
+use Prim.Native.Nat.{ℕ, _+_, _*_, _-_, _≤_}
+use native.Mathlib.Omega.{arith}
 use lib.Bits.{bitOr}
 use lib.ListN.{getD}
-use Prim.Native.Nat.{ℕ, _+_, _*_, _-_, _≤_}
+use borrow.Author.Needs.{needs}
 use Rattle.log.specs.Writing.{unitedOf}
 use Rattle.log.proofs.Days.{tick-fits}
 use Rattle.log.proofs.Appending.{united-more}

@@ -4,13 +4,13 @@ use mathlib.Core.List.{_++_}
 use Prim.Native.Nat.{ℕ}
 use native.Mathlib.Omega.{arith}
 use lib.ListN.{drop}
+use borrow.Author.Needs.{needs}
 use Rattle.records.specs.Limits.{wordsFor}
 use Rattle.records.specs.Outcomes.{success}
-use Rattle.log.specs.Days.{dayOf}
 use Rattle.records.specs.Verdicts.{verdictOutcome}
+use Rattle.log.specs.Days.{dayOf}
 use Rattle.log.specs.Calls.{Read}
 use Rattle.log.proofs.ReadCall.{read-refused, read-few, read-success, verdict-refused, Told, verdict-accepted, accepts, accepted-words}
-use borrow.Author.Needs.{needs}
 use Rattle.log.proofs.reading.read.Statement.{statement}
 use Rattle.log.proofs.reading.read.Tie as tie
 

@@ -1,12 +1,12 @@
 -- `tidy` meets its contract: reading's refusal, or what the tidy log's delivery comes to, and the words as reading leaves them.
-use native.Mathlib.Omega.{arith}
 use mathlib.Core.Path.{refl, sym, ap, _∙_}
+use native.Mathlib.Omega.{arith}
+use borrow.Author.Needs.{needs}
 use Rattle.records.specs.Verdicts.{verdictOutcome}
 use Rattle.log.specs.Buffers.{deliver}
 use Rattle.log.specs.Calls.{Tidied}
 use Rattle.log.proofs.Delivering.{writable}
 use Rattle.log.proofs.TidyCall.{tidy-delivers, WasRead, was-read, unread-refused, read-limits, read-enough, read-bytes}
-use borrow.Author.Needs.{needs}
 use Rattle.log.proofs.tidying.tidy.Statement.{statement}
 use Rattle.log.proofs.tidying.tidy.Tie as tie
 

@@ -1,27 +1,14 @@
--- deliver_log meets its contract: each of its three answers is the one of the log that is encoded.
+-- deliver_log meets its contract: too many contact records are refused, and otherwise the log that is encoded is delivered.
+use mathlib.Core.Path.{sym, ap, _∙_}
+use Prim.Native.Nat.{_+_, _*_}
 use native.Mathlib.Omega.{arith}
-use mathlib.Core.List.{List}
-use mathlib.Core.Path.{_≡_, sym, ap, _∙_}
-use Prim.Native.Nat.{ℕ, _+_, _*_, _≤_}
-use lib.ListN.{length, take}
-use Rattle.records.specs.Limits.{maxLogBytes}
+use lib.Seq.{length-take-le}
+use borrow.Author.Needs.{needs}
 use Rattle.records.specs.Outcomes.{numberOf}
 use Rattle.log.specs.Buffers.{Delivered}
-use Rattle.log.proofs.Delivering.{log-size, encoded-many, encoded-short, encoded-whole}
-use borrow.Author.Needs.{needs}
+use Rattle.log.proofs.Delivering.{encoded-many, encoded-few}
 use Rattle.log.proofs.writing.deliver_log.Statement.{statement}
 use Rattle.log.proofs.writing.deliver_log.Tie as tie
-
--- the memory that the log is encoded in
-abbrev Log : tie.After-encode-day → List ℕ
-Log c = c .encode-day .last .1 .1 .1 .0
-
-long : (c : tie.After-encode-day) → maxLogBytes ≤ length (Log c)
-long c = omega arith
-
--- what is put into the buffer that is lent has as many bytes as the log
-size : (c : tie.Else1) → length (take (10 + 6 * c .before .before .encode-day .result) (Log (c .before .before))) ≡ 10 + 6 * c .before .before .encode-day .result
-size c = log-size (c .before .before .encode-day .result) (Log (c .before .before)) (omega (arith, c .if1 .left)) (long (c .before .before))
 
 slice-aggregate-encode-day : tie.Need-slice-aggregate-encode-day
 slice-aggregate-encode-day c = search needs
@@ -35,37 +22,34 @@ returns c =
     let e = encoded-many (c .before .before .encode-day .ensures) (numberOf (s .args .too-many)) (s .args .buffer .now) (c .if1 .taken) in
     (rw (e, s .pre .1), rw e)
 
-mul-size : tie.Need-mul-size
-mul-size c = search needs
+mul-log : tie.Need-mul-log
+mul-log c = search needs
 
-add-size : tie.Need-add-size
-add-size c = search needs
-
-returns-2 : tie.Need-returns-2
-returns-2 c =
-    let a = c .before .before .before .before .before .before .before .args in
-    let d = c .before .before .before in
-    let e = encoded-short (d .encode-day .ensures) (numberOf (a .too-many)) (a .buffer .now) (c .before .if1 .left) (long d) (c .if2 .taken) in
-    (rw e, rw e)
+add-log : tie.Need-add-log
+add-log c = search needs
 
 array-share-prefix-log : tie.Need-array-share-prefix-log
 array-share-prefix-log c = search needs
 
-slice-aggregate-put : tie.Need-slice-aggregate-put
-slice-aggregate-put c = sym (size (c .before .before .before))
+slice-aggregate-deliver : tie.Need-slice-aggregate-deliver
+slice-aggregate-deliver c =
+    let d = c .before .before .before in
+    sym (length-take-le (10 + 6 * d .encode-day .result) (d .encode-day .last .1 .1 .1 .0) (omega (arith, c .before .if1 .left)))
 
-put-requires : tie.Need-put-requires
-put-requires c κs = omega (arith, size (c .before .before .before), c .before .before .if2 .left)
+deliver-requires : tie.Need-deliver-requires
+deliver-requires c κs = search needs
 
 same-length : tie.Need-same-length
 same-length c = search needs
 
-returns-3 : tie.Need-returns-3
-returns-3 c =
-    let a = c .before .before .before .before .before .before .before .before .before .before .before .before .args in
-    let d = c .before .before .before .before .before .before .before .before in
-    let e = encoded-whole (d .encode-day .ensures) (numberOf (a .too-many)) (a .buffer .now) (c .before .before .before .before .before .before .if1 .left) (long d) (c .before .before .before .before .before .if2 .left) in
-    (rw e, c .before .before .put .ensures ∙ ap (λ (x : Delivered). x .buffer) (sym e))
+returns-2 : tie.Need-returns-2
+returns-2 c =
+    let d = c .before .before in
+    let b = d .before .before .before in
+    let s = b .before .before in
+    let a = s .before .before .before .before .args in
+    let e = encoded-few (s .encode-day .ensures) (numberOf (a .too-many)) (a .buffer .now) (b .if1 .left) in
+    (d .deliver .ensures .0 ∙ sym (ap (λ (x : Delivered). x .answer) e), d .deliver .ensures .1 ∙ sym (ap (λ (x : Delivered). x .buffer) e))
 
 pub deliver-log-spec : {M : Type 1} → statement M
 deliver-log-spec =
@@ -74,11 +58,10 @@ deliver-log-spec =
     slice-aggregate-encode-day
     encode-day-requires
     returns
-    mul-size
-    add-size
-    returns-2
+    mul-log
+    add-log
     array-share-prefix-log
-    slice-aggregate-put
-    put-requires
+    slice-aggregate-deliver
+    deliver-requires
     same-length
-    returns-3)
+    returns-2)

@@ -1,11 +1,11 @@
 -- encode_day meets its contract: before badge u of the loop the header and the runs of the badges before u are encoded.
-use borrow.Author.Needs.{needs}
-use native.Mathlib.Omega.{arith}
 use mathlib.Core.Path.{_≡_, refl}
 use Prim.Native.Nat.{_-_, _≤_}
+use native.Mathlib.Omega.{arith}
 use lib.ListN.{length}
+use borrow.Author.Needs.{needs}
 use Rattle.log.specs.Days.{adjacent}
-use Rattle.log.specs.Tidy.{concat, rowRuns, tidyContacts}
+use Rattle.log.specs.Tidy.{concatBelow, rowRuns, tidyContacts}
 use Rattle.log.specs.Writing.{Appends}
 use Rattle.log.proofs.Appending.{appends-none, appends-more, encodes-many, encodes-whole}
 use Rattle.log.proofs.writing.encode_day.Statement.{statement}
@@ -13,7 +13,7 @@ use Rattle.log.proofs.writing.encode_day.Tie as tie
 
 abbrev Inv-loop : tie.InvT-loop
 Inv-loop words n ticks log₀ count₀ u₀ log count u =
-    (u ≤ n) × (length log ≡ length log₀) × Appends (concat u (rowRuns n ticks (adjacent n words))) 0 count log₀ log
+    (u ≤ n) × (length log ≡ length log₀) × Appends (concatBelow u (rowRuns n ticks (adjacent n words))) 0 count log₀ log
 
 abbrev μ-loop : tie.MeasureT-loop
 μ-loop words n ticks log₀ count₀ u₀ log count u = n - u
@@ -28,7 +28,7 @@ put-record-requires : tie.Need-put-record-requires Inv-loop μ-loop
 put-record-requires c κs = search needs
 
 loop-holds : tie.Need-loop-holds Inv-loop μ-loop
-unfolding concat
+unfolding concatBelow
 loop-holds c = (search needs, refl, appends-none _ _ (omega arith))
 
 append-row-requires : tie.Need-append-row-requires Inv-loop μ-loop

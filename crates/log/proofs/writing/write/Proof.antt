@@ -1,12 +1,12 @@
 -- `write` meets its contract: the refusal of the check, or what the tidy log's delivery comes to.
 use mathlib.Core.Path.{_≡_, refl, sym, ap, _∙_}
+use borrow.Author.Needs.{needs}
 use Rattle.records.specs.Outcomes.{success}
 use Rattle.log.specs.Buffers.{Delivered}
 use Rattle.log.specs.Calls.{checkOf, checkedOutcome}
 use Rattle.log.proofs.Checks.{check-passed}
 use Rattle.log.proofs.Delivering.{writable}
 use Rattle.log.proofs.TidyCall.{write-refused, write-passed}
-use borrow.Author.Needs.{needs}
 use Rattle.log.proofs.writing.write.Statement.{statement}
 use Rattle.log.proofs.writing.write.Tie as tie
 

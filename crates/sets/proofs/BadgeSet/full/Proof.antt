@@ -1,9 +1,9 @@
 -- BadgeSet::full meets its contract: in each of its three cases the word is one less than a power of two.
-use borrow.Author.Needs.{needs}
 use mathlib.Core.Path.{_≡_, refl}
 use Prim.Native.Nat.{ℕ, suc, _^_, min}
 use native.Mathlib.Omega.{arith}
 use lib.Pow.{pow-pos}
+use borrow.Author.Needs.{needs}
 use Rattle.sets.specs.Sets.{full}
 use Rattle.sets.specs.Members.{capacity}
 use Rattle.sets.proofs.Bits.{one-shl}

@@ -1,10 +1,10 @@
 -- BadgeSet::has meets its contract: below 64 by the test of one bit, and above because a word has no such bit.
-use borrow.Author.Needs.{needs}
 use mathlib.Core.Path.{_≡_, sym, ap}
 use mathlib.Core.Bool.{false}
 use Prim.Native.Nat.{ℕ, _^_, _≤_, _<_}
 use native.Mathlib.Omega.{arith}
 use lib.Dec.{eqb}
+use borrow.Author.Needs.{needs}
 use borrow.Author.Tests.{ne-eqb}
 use Rattle.sets.specs.Sets.{bit, has}
 use Rattle.sets.specs.Members.{capacity}

@@ -1,8 +1,8 @@
 -- BadgeSet::with meets its contract: below 64 it is a union with one badge, and above it changes nothing.
-use borrow.Author.Needs.{needs}
 use mathlib.Core.Path.{_≡_, sym, ap, _∙_}
 use Prim.Native.Nat.{ℕ, _*_, _%_, _^_, _<_}
 use lib.Bits.{bitOr}
+use borrow.Author.Needs.{needs}
 use Rattle.sets.specs.Sets.{union, only}
 use Rattle.sets.specs.Members.{capacity, insert}
 use Rattle.sets.proofs.Bits.{one-shl}

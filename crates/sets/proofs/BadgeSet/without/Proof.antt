@@ -1,10 +1,10 @@
 -- BadgeSet::without meets its contract: what it takes away is the set of one badge, or nothing where no set can hold the badge.
-use borrow.Author.Needs.{needs}
 use mathlib.Core.Path.{_≡_, ap, _∙_}
 use Prim.Native.Nat.{ℕ, _^_, _≤_, _<_}
 use native.Mathlib.Decide.{decLt}
 use native.Mathlib.Omega.{arith}
 use lib.Bits.{or-zero-l}
+use borrow.Author.Needs.{needs}
 use Rattle.sets.specs.Sets.{union, difference, only}
 use Rattle.sets.specs.Members.{capacity, insert}
 use Rattle.sets.proofs.Sets.{not-in-none, in-difference, of-difference, of-only, in-lt, insert-in, insert-out, ext}
