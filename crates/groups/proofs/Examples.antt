@@ -1,0 +1,65 @@
+-- Document 01's day D1 and its neighbours, as far as core numbers go, by computation from the definitions.
+use mathlib.Core.Path.{_≡_, refl}
+use mathlib.Core.List.{List, [], _∷_}
+use Prim.Native.Nat.{ℕ}
+use lib.ListN.{replicate}
+use Rattle.sets.specs.Bools.{_and_, _or_, isnt, all}
+use Rattle.sets.specs.Sets.{bit, intersection, setOf, full, filterIn, filter, sizeIn, size}
+use Rattle.sets.specs.Tables.{tabulate}
+use Rattle.records.specs.Limits.{withinLimits}
+use Rattle.records.specs.Outcomes.{refused, success, refuseIf, andThen}
+use Rattle.log.specs.Days.{neighbours, adjacent, isTick, isDay}
+use Rattle.log.specs.Buffers.{deliver}
+use Rattle.log.specs.Calls.{checkOf}
+use Rattle.cores.specs.Graphs.{degree}
+use Rattle.cores.specs.Cores.{strip, strips, core}
+use Rattle.cores.specs.Orders.{largest, coreNumber}
+use Rattle.groups.specs.Spans.{isSpan, throughout, spanNeighbours}
+use Rattle.groups.specs.Calls.{coreNumberBytes, spanJudged, coreNumbersOf}
+
+-- D1, n 4 and T 3: contacts 0–1, 0–2 and 1–2 in ticks 0 to 1, and 2–3 in ticks 0 to 2; one word a badge, tick after tick
+unfoldable pub d1Words : List ℕ
+d1Words = 6 ∷ 5 ∷ 11 ∷ 4 ∷ 6 ∷ 5 ∷ 11 ∷ 4 ∷ 0 ∷ 0 ∷ 8 ∷ 4 ∷ []
+
+-- n 3, T 2: 0–1 in tick 0, 0–2 in tick 1
+changing : List ℕ
+changing = 2 ∷ 1 ∷ 0 ∷ 4 ∷ 0 ∷ 1 ∷ []
+
+-- memory of so many bytes, all 7
+sevens : ℕ → List ℕ
+sevens m = replicate m 7
+
+-- all that the examples compute with
+unfoldable pub computing : ℕ
+unfolding d1Words changing sevens _and_ _or_ isnt all bit intersection setOf full filterIn filter sizeIn size tabulate withinLimits refuseIf andThen neighbours adjacent isTick isDay deliver checkOf degree strip strips core largest coreNumber isSpan throughout spanNeighbours coreNumberBytes spanJudged coreNumbersOf
+computing = 0
+
+record Examples : Type 0 where
+  span-0-to-1 : coreNumberBytes 4 d1Words 0 1 ≡ 2 ∷ 2 ∷ 2 ∷ 1 ∷ []
+  span-0-to-2 : coreNumberBytes 4 d1Words 0 2 ≡ 0 ∷ 0 ∷ 1 ∷ 1 ∷ []
+  into-5 : coreNumbersOf 4 3 d1Words 0 1 (sevens 5) ≡ record { answer = success 4; buffer = 2 ∷ 2 ∷ 2 ∷ 1 ∷ 7 ∷ [] }
+  into-3 : coreNumbersOf 4 3 d1Words 0 1 (sevens 3) ≡ record { answer = refused 9 0; buffer = sevens 3 }
+  first-after-last : coreNumbersOf 4 3 d1Words 2 1 (sevens 3) ≡ record { answer = refused 12 0; buffer = sevens 3 }
+  last-too-large : coreNumbersOf 4 3 d1Words 0 3 (sevens 4) ≡ record { answer = refused 12 0; buffer = sevens 4 }
+  no-day-no-span : coreNumbersOf 4 3 (sevens 12) 2 1 (sevens 3) ≡ record { answer = refused 11 0; buffer = sevens 3 }
+  few-words : coreNumbersOf 4 3 (sevens 11) 2 1 (sevens 3) ≡ record { answer = refused 8 0; buffer = sevens 3 }
+  no-ticks : coreNumbersOf 4 0 [] 2 1 [] ≡ record { answer = refused 10 0; buffer = [] }
+  -- partners that change tick by tick make no pair of the span
+  changing-partners : coreNumberBytes 3 changing 0 1 ≡ 0 ∷ 0 ∷ 0 ∷ []
+  one-tick : coreNumberBytes 3 changing 0 0 ≡ 1 ∷ 1 ∷ 0 ∷ []
+
+examples : Examples
+unfolding computing
+examples = record {
+  span-0-to-1 = refl;
+  span-0-to-2 = refl;
+  into-5 = refl;
+  into-3 = refl;
+  first-after-last = refl;
+  last-too-large = refl;
+  no-day-no-span = refl;
+  few-words = refl;
+  no-ticks = refl;
+  changing-partners = refl;
+  one-tick = refl;
+}

@@ -1,0 +1,40 @@
+// Why a call of the group part refuses: the refusals of the log part, and its own.
+ghost use mathlib.Core.Path.{_≡_};
+ghost use Rattle.groups.specs.Refusals.{numberOf, offsetOf};
+
+pub enum Refusal {
+    // One that the log part gives: 8 to 11.
+    Log(log::Refusal),
+    // 12: a span with first after last, or last of T or more.
+    InvalidSpan,
+    // 13: the query has a badge of n or more.
+    ForeignQuery,
+    // 14: h is 0 or above T.
+    InvalidParts,
+}
+
+impl Refusal {
+    // The number of a refusal in document 01.
+    pub fn number(self) -> u8
+        ensures { λ r. ⌜ r ≡ numberOf self ⌝ }
+    {
+        match self {
+            Refusal::Log(refusal) => refusal.number(),
+            Refusal::InvalidSpan => 12,
+            Refusal::ForeignQuery => 13,
+            Refusal::InvalidParts => 14,
+        }
+    }
+
+    // The byte offset that goes with it.
+    pub fn offset(self) -> usize
+        ensures { λ r. ⌜ r ≡ offsetOf self ⌝ }
+    {
+        match self {
+            Refusal::Log(refusal) => refusal.offset(),
+            Refusal::InvalidSpan => 0,
+            Refusal::ForeignQuery => 0,
+            Refusal::InvalidParts => 0,
+        }
+    }
+}
