@@ -2,6 +2,8 @@
 // A header has 4 bytes and every other record of a log 6, so record k after the header starts at 4 + 6k.
 ghost use mathlib.Core.Path.{_≡_};
 ghost use Prim.Native.Nat.{_+_, _*_, _<_, _≤_};
+use trials::byte_at;
+use trials::set_byte;
 
 // The marks, each as the number of its two ASCII bytes.
 pub(crate) const BH: usize = 0x4248;
@@ -10,28 +12,12 @@ pub(crate) const CT: usize = 0x4354;
 
 pub(crate) const ED: usize = 0x4544;
 
-// What each byte of a buffer holds before a call.
-pub(crate) const FILLER: u8 = 0xa5;
-
 // Where record k after the header starts.
 pub(crate) fn place(k: usize) -> usize
     requires { ⌜ k ≤ 8001 ⌝ }
     ensures { λ r. ⌜ r ≡ 4 + 6 * k ⌝ }
 {
     4 + 6 * k
-}
-
-fn wide(x: u8) -> usize
-    ensures { λ r. ⌜ r < 256 ⌝ }
-{
-    x as usize
-}
-
-// The byte at a position, 0 past the end.
-pub(crate) fn byte_at(log: &[u8], i: usize) -> usize
-    ensures { λ r. ⌜ r < 256 ⌝ }
-{
-    if i < log.len() { wide(log[i]) } else { 0 }
 }
 
 // The number of the two bytes at a position, as marks are written above.
@@ -64,13 +50,6 @@ pub(crate) fn bytes_from(log: &[u8], at: usize) -> &[u8] {
         return &log[at..];
     }
     first_bytes(log, 0)
-}
-
-// Sets the byte at a position to the lowest eight bits of a number; past the end it sets nothing.
-pub(crate) fn set_byte(log: &mut [u8], i: usize, value: usize) {
-    if i < log.len() {
-        log[i] = (value % 256) as u8;
-    }
 }
 
 // Puts a mark and four bytes at a position.
@@ -113,17 +92,4 @@ pub(crate) fn put_end(log: &mut [u8], k: usize, count: usize) -> usize
         count / 16777216,
     );
     at + 6
-}
-
-// Whether two slices hold the same bytes.
-pub(crate) fn same_bytes(a: &[u8], b: &[u8]) -> bool {
-    if a.len() != b.len() {
-        return false;
-    }
-    for i in 0..a.len() {
-        if byte_at(a, i) != byte_at(b, i) {
-            return false;
-        }
-    }
-    true
 }

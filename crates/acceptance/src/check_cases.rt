@@ -4,14 +4,14 @@ use crate::answer::Answer;
 use crate::bytes::first_bytes;
 use crate::d1::WORDS;
 use crate::judge_words::judge_words;
-use crate::random::SEED;
-use crate::random::draw;
 use crate::random_logs::put_small;
-use crate::tally::Tally;
 use crate::words::first_words;
-use crate::words::set_word;
-use crate::words::word_at;
 use crate::words::words_for;
+use trials::SEED;
+use trials::Tally;
+use trials::draw;
+use trials::set_word;
+use trials::word_at;
 
 // A case whose number is the second judge's.
 fn judged(tally: Tally, words: &[u64], n: usize, ticks: usize) -> Tally {

@@ -5,11 +5,11 @@ use crate::answer::Answer;
 use crate::bytes::BH;
 use crate::bytes::CT;
 use crate::bytes::ED;
-use crate::bytes::byte_at;
 use crate::bytes::count_at;
 use crate::bytes::mark_at;
 use crate::bytes::place;
 use crate::words::words_for;
+use trials::byte_at;
 
 // Whether a whole contact of two of n badges in a span of T ticks stands at a position.
 fn is_contact(log: &[u8], at: usize, n: usize, ticks: usize) -> bool

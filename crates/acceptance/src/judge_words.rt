@@ -1,7 +1,7 @@
 // The second judge of words, written from document 01: every bit of every word is tried.
 ghost use Prim.Native.Nat.{_≤_, _<_};
-use crate::words::word_at;
 use crate::words::words_for;
+use trials::word_at;
 
 // Whether bit v of a word is set.
 pub(crate) fn has(word: u64, v: usize) -> bool {

@@ -7,7 +7,6 @@ mod d1;
 mod judge_logs;
 mod judge_tidy;
 mod judge_words;
-mod random;
 mod random_days;
 mod random_logs;
 mod read_cases;
@@ -17,7 +16,6 @@ mod read_random;
 mod read_refusals;
 mod refused_logs;
 mod runs;
-mod tally;
 mod tidy_cases;
 mod tidy_d1;
 mod tidy_many;
@@ -26,8 +24,8 @@ mod tidy_refusals;
 mod words;
 mod write_cases;
 
-use tally::Tally;
-use tally::print;
+use trials::Tally;
+use trials::print;
 
 // Read: logs by hand, and D1's log cut and changed.
 fn read_by_hand(t: Tally) -> Tally {

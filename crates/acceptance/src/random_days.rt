@@ -1,11 +1,11 @@
 // Days made bit by bit: random ones, and ones with a given number of runs.
 ghost use Prim.Native.Nat.{_≤_, _<_};
 use crate::judge_words::word_of;
-use crate::random::draw;
-use crate::words::set_word;
 use crate::words::with_badge;
-use crate::words::word_at;
 use crate::words::words_for;
+use trials::draw;
+use trials::set_word;
+use trials::word_at;
 
 // Sets bit v of word i and its mirror.
 fn set_pair(words: &mut [u64], n: usize, i: usize, v: usize)

@@ -1,12 +1,12 @@
 // Random logs as several receivers would write them: pairs from either side, overlaps, repeats and pieces.
 ghost use mathlib.Core.Path.{_≡_};
 ghost use Prim.Native.Nat.{_+_, _*_, _≤_, _<_};
-use crate::bytes::byte_at;
 use crate::bytes::place;
 use crate::bytes::put_contact;
 use crate::bytes::put_end;
 use crate::bytes::put_header;
-use crate::random::draw;
+use trials::byte_at;
+use trials::draw;
 
 // Puts a contact of two random badges in a random span as record k.
 fn put_new(log: &mut [u8], k: usize, n: usize, ticks: usize, state: &mut u64)

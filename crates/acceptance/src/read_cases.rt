@@ -6,10 +6,10 @@ use crate::d1::MESSY;
 use crate::d1::TIDY;
 use crate::d1::WORDS;
 use crate::judge_logs::judge_read;
-use crate::tally::Tally;
 use crate::words::fill_expected;
 use crate::words::pattern;
-use crate::words::same_words;
+use trials::Tally;
+use trials::same_words;
 
 // Whether read gives an answer to a log, and leaves in the words that it is lent what is wanted there.
 fn leaves(log: &[u8], words: &mut [u64], wanted: &[u64], expected: Answer) -> bool {

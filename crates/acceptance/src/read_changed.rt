@@ -1,10 +1,10 @@
 // D1's log cut short at every length, and with every byte changed.
-use crate::bytes::byte_at;
 use crate::bytes::first_bytes;
-use crate::bytes::set_byte;
 use crate::d1::TIDY;
 use crate::read_cases::judged;
-use crate::tally::Tally;
+use trials::Tally;
+use trials::byte_at;
+use trials::set_byte;
 
 // Each prefix of a log, from no byte to all of them.
 fn prefixes_of(tally: Tally, log: &[u8]) -> Tally {

@@ -6,10 +6,10 @@ use crate::bytes::first_bytes;
 use crate::bytes::put_contact;
 use crate::bytes::put_end;
 use crate::bytes::put_header;
-use crate::random::SEED;
 use crate::random_logs::put_log;
 use crate::read_cases::by_hand;
-use crate::tally::Tally;
+use trials::SEED;
+use trials::Tally;
 
 // A log of n badges and T ticks with so many contacts, some of them the same, and their count.
 pub(crate) fn long_log(log: &mut [u8], n: usize, ticks: usize, contacts: usize)

@@ -1,14 +1,14 @@
 // Cases of read on random logs, some of them damaged, and some with too few words lent.
 ghost use Prim.Native.Nat.{_≤_};
-use crate::bytes::byte_at;
 use crate::bytes::first_bytes;
-use crate::bytes::set_byte;
-use crate::random::SEED;
-use crate::random::draw;
 use crate::random_logs::put_small;
 use crate::read_cases::judged;
-use crate::tally::Tally;
 use crate::words::words_for;
+use trials::SEED;
+use trials::Tally;
+use trials::byte_at;
+use trials::draw;
+use trials::set_byte;
 
 // Damages one log in three: it is cut, or gets a byte more, or has a byte changed. Gives its length.
 fn damage(log: &mut [u8], len: usize, state: &mut u64) -> usize

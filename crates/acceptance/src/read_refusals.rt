@@ -2,7 +2,7 @@
 use crate::answer::Answer;
 use crate::read_cases::by_hand;
 use crate::refused_logs;
-use crate::tally::Tally;
+use trials::Tally;
 
 // The least n and T, and the last tick of a day: accepted.
 fn at_limits(t: Tally) -> Tally {

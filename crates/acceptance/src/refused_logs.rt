@@ -4,12 +4,12 @@
 ghost use Prim.Native.Nat.{_<_};
 ghost use lib.ListN.{length};
 use crate::answer::Answer;
-use crate::bytes::byte_at;
 use crate::bytes::bytes_from;
 use crate::bytes::first_bytes;
 use crate::read_cases;
-use crate::tally::Tally;
 use crate::tidy_cases;
+use trials::Tally;
+use trials::byte_at;
 
 // The case at a position of a table, through read or through tidy. It is refused, though more is lent than its day needs.
 fn run_case(tally: Tally, table: &[u8], at: usize, tidy: bool) -> Tally

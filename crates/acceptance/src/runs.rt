@@ -1,14 +1,14 @@
 // The tidy log of a day, found slowly from a plain table of contacts. The table has one byte for each ordered pair and tick, 1 for a
 // contact: u and v in tick t have cell (u × 64 + v) × 96 + t. Ticks after the day's last have no contact.
 ghost use Prim.Native.Nat.{_≤_, _<_};
-use crate::bytes::byte_at;
 use crate::bytes::put_contact;
 use crate::bytes::put_end;
 use crate::bytes::put_header;
-use crate::bytes::set_byte;
 use crate::judge_words::has;
-use crate::words::word_at;
 use crate::words::words_for;
+use trials::byte_at;
+use trials::set_byte;
+use trials::word_at;
 
 // Puts the contact that bit v of word i says, if it says one. A day's word has a badge below 64 and a tick below 96.
 fn put_cell(table: &mut [u8], words: &[u64], n: usize, i: usize, v: usize)

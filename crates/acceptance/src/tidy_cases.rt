@@ -2,13 +2,13 @@
 use crate::answer;
 use crate::answer::Answer;
 use crate::answer::DIFFERENT;
-use crate::bytes::FILLER;
 use crate::bytes::first_bytes;
-use crate::bytes::same_bytes;
 use crate::judge_logs::judge_read;
 use crate::judge_tidy::judge_tidy;
-use crate::tally::Tally;
-use crate::words::same_words;
+use trials::FILLER;
+use trials::Tally;
+use trials::same_bytes;
+use trials::same_words;
 
 // What tidy answers to a log, if the second judge gives the same answer, and both leave the same words and bytes. Otherwise a refusal by a
 // number that no call gives.

@@ -1,15 +1,15 @@
 // D1 through tidy and through write: its bytes are written by hand.
 use crate::answer;
 use crate::answer::Answer;
-use crate::bytes::FILLER;
-use crate::bytes::same_bytes;
 use crate::d1::MESSY;
 use crate::d1::TIDY;
 use crate::d1::WORDS;
-use crate::tally::Tally;
 use crate::tidy_cases;
 use crate::tidy_cases::tidies_to;
 use crate::write_cases;
+use trials::FILLER;
+use trials::Tally;
+use trials::same_bytes;
 
 // A log of D1 gives the 34 bytes, lent just enough words and a few bytes more, and lent so many words and more bytes than any log has.
 fn from_log(t: Tally, log: &[u8], lent: usize) -> Tally {

@@ -2,17 +2,17 @@
 ghost use Prim.Native.Nat.{_<_};
 use crate::answer;
 use crate::answer::Answer;
-use crate::bytes::FILLER;
-use crate::random::SEED;
 use crate::random_days::fill_runs;
 use crate::random_logs::put_log;
 use crate::read_many::long_log;
 use crate::read_many::put_full;
-use crate::tally::Tally;
 use crate::tidy_cases::agreed;
 use crate::tidy_cases::settles;
 use crate::tidy_cases::tidies_to;
 use crate::write_cases;
+use trials::FILLER;
+use trials::SEED;
+use trials::Tally;
 
 // A log of n badges and T ticks with 8,000 contacts, most of them the same, that tidies to so many bytes.
 fn repeats(tally: Tally, n: usize, ticks: usize, len: usize) -> Tally

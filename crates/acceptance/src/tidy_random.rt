@@ -1,18 +1,18 @@
 // Random logs through tidy, and random days through write.
 use crate::answer::Answer;
 use crate::answer::DIFFERENT;
-use crate::bytes::byte_at;
 use crate::bytes::first_bytes;
-use crate::random::SEED;
-use crate::random::draw;
 use crate::random_days::fill_random;
 use crate::random_logs::put_small;
-use crate::tally::Tally;
 use crate::tidy_cases;
 use crate::tidy_cases::settles;
-use crate::words::set_word;
 use crate::words::words_for;
 use crate::write_cases;
+use trials::SEED;
+use trials::Tally;
+use trials::byte_at;
+use trials::draw;
+use trials::set_word;
 
 // A random log, lent just enough words or a few more: with a buffer that is longer than the answer, as long, and a byte shorter.
 fn random_log(tally: Tally, state: &mut u64) -> Tally {

@@ -7,11 +7,11 @@ use crate::d1::WORDS;
 use crate::random_days::fill_runs;
 use crate::read_many::long_log;
 use crate::refused_logs;
-use crate::tally::Tally;
 use crate::tidy_cases;
 use crate::words::first_words;
-use crate::words::set_word;
 use crate::write_cases;
+use trials::Tally;
+use trials::set_word;
 
 // 5: a log with a contact more than 8,000.
 fn too_many_contacts(t: Tally) -> Tally {

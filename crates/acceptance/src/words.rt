@@ -1,8 +1,9 @@
 // The words of a day, found slowly, and the words that a call is lent. Word i is badge i % n's in tick i / n.
 ghost use Prim.Native.Nat.{_≤_, _<_};
 use crate::answer::Answer;
-use crate::bytes::byte_at;
 use crate::bytes::place;
+use trials::byte_at;
+use trials::set_word;
 
 // How many words a day of n badges and T ticks has: none beyond the limits.
 pub(crate) fn words_for(n: usize, ticks: usize) -> usize
@@ -83,35 +84,10 @@ pub(crate) fn fill_expected(words: &mut [u64], log: &[u8], answer: Answer) {
     }
 }
 
-// The word at a place, 0 past the end.
-pub(crate) fn word_at(words: &[u64], i: usize) -> u64 {
-    if i < words.len() { words[i] } else { 0 }
-}
-
 // The first words; all of them where there are fewer.
 pub(crate) fn first_words(words: &[u64], count: usize) -> &[u64] {
     if count <= words.len() {
         return &words[..count];
     }
     words
-}
-
-// Sets the word at a place; past the end it sets nothing.
-pub(crate) fn set_word(words: &mut [u64], i: usize, word: u64) {
-    if i < words.len() {
-        words[i] = word;
-    }
-}
-
-// Whether two slices hold the same words.
-pub(crate) fn same_words(a: &[u64], b: &[u64]) -> bool {
-    if a.len() != b.len() {
-        return false;
-    }
-    for i in 0..a.len() {
-        if a[i] != word_at(b, i) {
-            return false;
-        }
-    }
-    true
 }

@@ -2,10 +2,10 @@
 use crate::answer;
 use crate::answer::Answer;
 use crate::answer::DIFFERENT;
-use crate::bytes::FILLER;
-use crate::bytes::same_bytes;
 use crate::judge_tidy::judge_write;
-use crate::tally::Tally;
+use trials::FILLER;
+use trials::Tally;
+use trials::same_bytes;
 
 // What write answers to words, if the second judge gives the same answer, and both leave the same bytes. Otherwise a refusal by a
 // number that no call gives.

@@ -1,0 +1,54 @@
+-- `random_rows::peel` is safe.
+use Prim.Native.Nat.{_-_}
+use borrow.Author.Needs.{needs}
+use Rattle.acceptance_groups.proofs.random_rows.peel.Statement.{statement}
+use Rattle.acceptance_groups.proofs.random_rows.peel.Tie as tie
+
+abbrev Inv-loop : tie.InvT-loop
+Inv-loop state₀ t₀ i₀ state t i = Unit
+
+abbrev μ-loop : tie.MeasureT-loop
+μ-loop state₀ t₀ i₀ state t i = 804 - i
+
+none-requires : tie.Need-none-requires Inv-loop μ-loop
+none-requires c κs = search needs
+
+loop-holds : tie.Need-loop-holds Inv-loop μ-loop
+loop-holds c = search needs
+
+random-rows-requires : tie.Need-random-rows-requires Inv-loop μ-loop
+random-rows-requires c κs = search needs
+
+random-base-requires : tie.Need-random-base-requires Inv-loop μ-loop
+random-base-requires c κs = search needs
+
+peel-case-requires : tie.Need-peel-case-requires Inv-loop μ-loop
+peel-case-requires c κs = search needs
+
+add-i : tie.Need-add-i Inv-loop μ-loop
+add-i c = search needs
+
+loop-less : tie.Need-loop-less Inv-loop μ-loop
+loop-less c = search needs
+
+loop-again : tie.Need-loop-again Inv-loop μ-loop
+loop-again c = search needs
+
+returns : tie.Need-returns Inv-loop μ-loop
+returns c = search needs
+
+pub peel-spec : {M : Type 1} → statement M
+peel-spec =
+    tie.close
+    (tie.spec
+    Inv-loop
+    μ-loop
+    none-requires
+    loop-holds
+    random-rows-requires
+    random-base-requires
+    peel-case-requires
+    add-i
+    loop-less
+    loop-again
+    returns)
