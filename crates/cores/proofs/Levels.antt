@@ -9,7 +9,6 @@ use native.Mathlib.Decide.{ℕ-discrete, decLe}
 use native.Mathlib.Omega.{arith}
 use lib.Dec.{ltb}
 use lib.ListN.{replicate, getD-replicate}
-use borrow.Author.Tests.{lt-ltb, le-ltb}
 use Rattle.sets.specs.Bools.{_and_}
 use Rattle.sets.specs.Sets.{bit, In, has, isSub, size}
 use Rattle.sets.specs.Members.{capacity}
@@ -25,7 +24,7 @@ use Rattle.cores.specs.Rows.{graph, induced, coreNumbers}
 use Rattle.cores.specs.Passes.{joined, raised}
 use Rattle.cores.proofs.Degrees.{cohesive-least, degree-le}
 use Rattle.cores.proofs.Cores.{core-sub, core-cohesive, core-falls, core-again, core-up-to-least, core-order}
-use Rattle.cores.proofs.Orders.{largest-le, largest-most, largest-same, member-pos, score-of, score-in}
+use Rattle.cores.proofs.Orders.{largest-le, largest-most, largest-same, member-pos, score-of, score-in, highest-yes, highest-no}
 use Rattle.cores.proofs.Induced.{induced-core, induced-degree, induced-again, joined-core}
 
 -- the rows of the core of an order of 1 or more, and the members found from them
@@ -177,11 +176,10 @@ module _ {rows : List ℕ} {base query above order s : ℕ} (c : Climbed rows ba
       go (inr x) = omega (arith, x .0, score-low, score-in (graph rows) base query order (x .1))
 
   pub climbed-members : s ≡ highestMembers (graph rows) base query above
-  unfolding highestMembers
   climbed-members = go (c .state)
     where
       go : ((order ≡ above) × (s ≡ 0)) ⊎ ((above < order) × (contains (graph rows) base query order ≡ true) × (s ≡ core (graph rows) base order)) → s ≡ highestMembers (graph rows) base query above
-      go (inl x) = rw (le-ltb above (score (graph rows) base query) (omega (arith, x .0, score-low)), highestMembers) (x .1)
+      go (inl x) = x .1 ∙ sym (highest-no (graph rows) base query above (omega (arith, x .0, score-low)))
       go (inr x) =
           let f : order ≡ score (graph rows) base query = omega (arith, score-low, score-in (graph rows) base query order (x .1)) in
-          rw (lt-ltb above (score (graph rows) base query) (omega (arith, x .0)), highestMembers) (x .2 ∙ ap (core (graph rows) base) f)
+          x .2 ∙ ap (core (graph rows) base) f ∙ sym (highest-yes (graph rows) base query above (omega (arith, x .0)))

@@ -1,18 +1,19 @@
 -- Laws of the largest orders: of core numbers, of the top order and of the score of a query.
-use mathlib.Core.Path.{_≡_, refl}
+use mathlib.Core.Path.{_≡_, refl, sym, ap, _∙_}
 use mathlib.Core.Bool.{Bool, true, false}
-use mathlib.Core.Logic.{_⊎_, inl, inr, _↔_}
+use mathlib.Core.Logic.{_⊎_, inl, inr, _↔_, by-cases}
 use Prim.Native.Nat.{ℕ, zero, suc, _≤_, _<_, zero-le, suc-le-suc}
 use native.Mathlib.Nat.{le-refl, eq-or-lt-of-le}
+use native.Mathlib.Decide.{decLt}
 use native.Mathlib.Omega.{arith}
 use lib.Dec.{ltb}
-use borrow.Author.Tests.{ltb-true, lt-ltb}
+use borrow.Author.Tests.{ltb-true, lt-ltb, le-ltb}
 use Rattle.sets.specs.Sets.{In, has, Sub, size}
 use Rattle.sets.proofs.Bools.{clash, and-in, and-left, and-right}
 use Rattle.sets.proofs.Sets.{not-in-none, in-test, has-test, none-sub, sub-trans, sub-pos, is-sub-in, is-sub-of}
 use Rattle.cores.specs.Graphs.{LeastDegree, Cohesive, FewerPairs}
 use Rattle.cores.specs.Cores.{core}
-use Rattle.cores.specs.Orders.{largest, coreNumber, topOrder, contains, score}
+use Rattle.cores.specs.Orders.{largest, coreNumber, topOrder, contains, score, highestMembers}
 use Rattle.cores.proofs.Degrees.{least-exists, least-cohesive, cohesive-least}
 use Rattle.cores.proofs.Cores.{core-sub, core-cohesive, core-largest, core-falls, core-same, core-zero, core-order}
 
@@ -173,3 +174,31 @@ number-same {rows′} {rows} base f g u = omega (
   largest-mono (size base) (size base) (λ k. has (core rows′ base k) u) (λ k. has (core rows base k) u) (λ j l h e. (h, rw (core-same base j f g) at e)),
   largest-mono (size base) (size base) (λ k. has (core rows base k) u) (λ k. has (core rows′ base k) u) (λ j l h e. (h, rw (core-same base j f g) e)),
 )
+
+-- and the same scores
+pub score-same : {rows′ rows : ℕ → ℕ} (base query : ℕ) → FewerPairs base rows′ rows → FewerPairs base rows rows′ → score rows′ base query ≡ score rows base query
+unfolding score contains
+score-same {rows′} {rows} base query f g = omega (
+  arith,
+  largest-mono (size base) (size base) (contains rows′ base query) (contains rows base query) (λ j l h e. (h, rw (core-same base j f g) at e)),
+  largest-mono (size base) (size base) (contains rows base query) (contains rows′ base query) (λ j l h e. (h, rw (core-same base j f g) e)),
+)
+
+-- the members of the highest core above an order, where there is one and where there is none
+module _ (rows : ℕ → ℕ) (base query above : ℕ) where
+  pub highest-yes : above < score rows base query → highestMembers rows base query above ≡ core rows base (score rows base query)
+  unfolding highestMembers
+  highest-yes h = rw (lt-ltb above (score rows base query) h, highestMembers)
+
+  pub highest-no : score rows base query ≤ above → highestMembers rows base query above ≡ 0
+  unfolding highestMembers
+  highest-no h = rw (le-ltb above (score rows base query) h, highestMembers)
+
+-- graphs with the same pairs among the badges of the base have the same highest cores
+pub highest-same : {rows′ rows : ℕ → ℕ} (base query above : ℕ) → FewerPairs base rows′ rows → FewerPairs base rows rows′
+    → highestMembers rows′ base query above ≡ highestMembers rows base query above
+highest-same {rows′} {rows} base query above f g =
+    let e = score-same base query f g in
+    by-cases (decLt above (score rows base query))
+    (λ h. highest-yes rows′ base query above (omega arith) ∙ core-same base (score rows′ base query) f g ∙ ap (core rows base) e ∙ sym (highest-yes rows base query above h))
+    (λ h. highest-no rows′ base query above (omega arith) ∙ sym (highest-no rows base query above (omega arith)))

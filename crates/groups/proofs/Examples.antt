@@ -5,8 +5,10 @@ use Prim.Native.Nat.{ℕ}
 use lib.ListN.{replicate}
 use Rattle.sets.specs.Bools.{_and_, _or_, isnt, all}
 use Rattle.sets.specs.Sets.{bit, intersection, setOf, full, filterIn, filter, sizeIn, size}
-use Rattle.sets.specs.Tables.{tabulate}
+use Rattle.sets.specs.Bytes.{littleEndian, fromLittleEndian}
+use Rattle.sets.specs.Tables.{tabulate, concatBelow, keepIf}
 use Rattle.records.specs.Limits.{withinLimits}
+use Rattle.records.specs.Records.{fieldsOf, encode}
 use Rattle.records.specs.Outcomes.{refused, success, refuseIf, andThen}
 use Rattle.log.specs.Days.{neighbours, adjacent, isTick, isDay}
 use Rattle.log.specs.Buffers.{deliver}
@@ -15,7 +17,10 @@ use Rattle.cores.specs.Graphs.{degree}
 use Rattle.cores.specs.Cores.{strip, strips, core}
 use Rattle.cores.specs.Orders.{largest, coreNumber}
 use Rattle.groups.specs.Spans.{isSpan, throughout, spanNeighbours}
-use Rattle.groups.specs.Calls.{coreNumberBytes, spanJudged, coreNumbersOf}
+use Rattle.groups.specs.SpanCores.{coreOn, hasCore}
+use Rattle.groups.specs.Reports.{asLarge, same, isMaximal, isGroup, groupsOn, groupsFrom, groupsOf}
+use Rattle.groups.specs.Encoding.{encodeCore, encodeCores, reportBytes, decodeCore, decodeCores, recordsAfter}
+use Rattle.groups.specs.Calls.{coreNumberBytes, spanJudged, coreNumbersOf, reportOf}
 
 -- D1, n 4 and T 3: contacts 0–1, 0–2 and 1–2 in ticks 0 to 1, and 2–3 in ticks 0 to 2; one word a badge, tick after tick
 unfoldable pub d1Words : List ℕ
@@ -25,13 +30,18 @@ d1Words = 6 ∷ 5 ∷ 11 ∷ 4 ∷ 6 ∷ 5 ∷ 11 ∷ 4 ∷ 0 ∷ 0 ∷ 8 ∷ 4 
 changing : List ℕ
 changing = 2 ∷ 1 ∷ 0 ∷ 4 ∷ 0 ∷ 1 ∷ []
 
+-- the report of D1: order 2, 0 to 1, {0,1,2}; order 1, 0 to 2, {2,3}
+d1Report : List ℕ
+d1Report =
+    82 ∷ 72 ∷ 4 ∷ 3 ∷ 71 ∷ 82 ∷ 2 ∷ 0 ∷ 1 ∷ 7 ∷ 0 ∷ 0 ∷ 0 ∷ 0 ∷ 0 ∷ 0 ∷ 0 ∷ 71 ∷ 82 ∷ 1 ∷ 0 ∷ 2 ∷ 12 ∷ 0 ∷ 0 ∷ 0 ∷ 0 ∷ 0 ∷ 0 ∷ 0 ∷ 69 ∷ 68 ∷ 2 ∷ 0 ∷ 0 ∷ 0 ∷ []
+
 -- memory of so many bytes, all 7
 sevens : ℕ → List ℕ
 sevens m = replicate m 7
 
 -- all that the examples compute with
 unfoldable pub computing : ℕ
-unfolding d1Words changing sevens _and_ _or_ isnt all bit intersection setOf full filterIn filter sizeIn size tabulate withinLimits refuseIf andThen neighbours adjacent isTick isDay deliver checkOf degree strip strips core largest coreNumber isSpan throughout spanNeighbours coreNumberBytes spanJudged coreNumbersOf
+unfolding d1Words d1Report changing sevens _and_ _or_ isnt all bit intersection setOf full filterIn filter sizeIn size tabulate withinLimits refuseIf andThen neighbours adjacent isTick isDay deliver checkOf degree strip strips core largest coreNumber isSpan throughout spanNeighbours coreNumberBytes spanJudged coreNumbersOf littleEndian fromLittleEndian fieldsOf encode concatBelow keepIf coreOn hasCore asLarge same isMaximal isGroup groupsOn groupsFrom groupsOf encodeCore encodeCores reportBytes decodeCore decodeCores recordsAfter reportOf
 computing = 0
 
 record Examples : Type 0 where
@@ -46,6 +56,8 @@ record Examples : Type 0 where
   no-ticks : coreNumbersOf 4 0 [] 2 1 [] ≡ record { answer = refused 10 0; buffer = [] }
   -- partners that change tick by tick make no pair of the span
   changing-partners : coreNumberBytes 3 changing 0 1 ≡ 0 ∷ 0 ∷ 0 ∷ []
+  report-36 : reportOf 4 3 d1Words (sevens 36) ≡ record { answer = success 36; buffer = d1Report }
+  report-35 : reportOf 4 3 d1Words (sevens 35) ≡ record { answer = refused 9 0; buffer = sevens 35 }
   one-tick : coreNumberBytes 3 changing 0 0 ≡ 1 ∷ 1 ∷ 0 ∷ []
 
 examples : Examples
@@ -61,5 +73,7 @@ examples = record {
   few-words = refl;
   no-ticks = refl;
   changing-partners = refl;
+  report-36 = refl;
+  report-35 = refl;
   one-tick = refl;
 }

@@ -34,7 +34,7 @@ narrows {rows} {tick} {out} o = record { span = λ n ws first last w h e f. o �
 
 -- the words of a tick of a span are among the words, from t * n on, and the n words from there are the tick's
 pub tick-inside : {n T : ℕ} {ws : List ℕ} {first last : ℕ} (t : ℕ) → SpanOfDay n T ws first last → t ≤ last → t * n + n ≤ length ws
-tick-inside {n} {T} t d l = omega (arith, d .inside, d .enough, tick-fits t T n (omega (arith, d .inside)))
+tick-inside {n} {T} t d l = omega (arith, d .inside, d .lent .enough, tick-fits t T n (omega (arith, d .inside)))
 
 slice-tick : (n : ℕ) (ws : List ℕ) (t : ℕ) {at : ℕ} → at ≡ t * n → take (at + n - at) (drop at ws) ≡ tickOf n ws t
 unfolding tickOf
@@ -50,14 +50,14 @@ pub record Going (n : ℕ) (ws : List ℕ) (first last t at : ℕ) (found : List
 -- at the first tick, after one tick more, and at the last tick
 module _ {n T : ℕ} {ws : List ℕ} {first last : ℕ} (d : SpanOfDay n T ws first last) where
   few : n ≤ capacity
-  few = limits-of (d .limits) .few
+  few = limits-of (d .lent .limits) .few
 
   pub going-start : {rows : List ℕ} → rows ≡ tickRows (take (first * n + n - first * n) (drop (first * n) ws)) → Going n ws first last first (first * n) rows
   going-start e = record {
     low = le-refl first;
     high = d .rising;
     place = refl;
-    rows = e ∙ ap tickRows (slice-tick n ws first refl) ∙ tick-span n T ws first (d .day) (omega (arith, d .rising, d .inside));
+    rows = e ∙ ap tickRows (slice-tick n ws first refl) ∙ tick-span n T ws first (d .lent .day) (omega (arith, d .rising, d .inside));
   }
 
   module _ {t at : ℕ} {rows : List ℕ} (g : Going n ws first last t at rows) (l : t < last) where

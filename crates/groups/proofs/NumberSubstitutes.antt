@@ -26,14 +26,14 @@ promised-numbers call p n T ws first last buffer d h =
 -- D1's words, and words without contacts
 d1-span : SpanOfDay 4 3 d1Words 0 1
 unfolding computing
-d1-span = record { limits = refl; enough = omega arith; day = day-of 4 3 d1Words refl; rising = omega arith; inside = omega arith }
+d1-span = record { lent = record { limits = refl; enough = omega arith; day = day-of 4 3 d1Words refl }; rising = omega arith; inside = omega arith }
 
 still : List ℕ
 still = replicate 12 0
 
 still-span : SpanOfDay 4 3 still 0 1
 unfolding computing still
-still-span = record { limits = refl; enough = omega arith; day = day-of 4 3 (replicate 12 0) refl; rising = omega arith; inside = omega arith }
+still-span = record { lent = record { limits = refl; enough = omega arith; day = day-of 4 3 (replicate 12 0) refl }; rising = omega arith; inside = omega arith }
 
 -- Numbers that the words do not decide, with whatever answer.
 module _ (answer : ℕ → ℕ → List ℕ → ℕ → ℕ → List ℕ → Outcome ℕ) (bytes : ℕ → ℕ → ℕ → ℕ → List ℕ) where

@@ -56,15 +56,14 @@ module _ (n T : ℕ) (ws : List ℕ) (first last : ℕ) (buffer : List ℕ) wher
 -- words that pass and a span of the day
 pub span-passed : {n T : ℕ} {ws : List ℕ} (first last : ℕ) → checkOf n T ws ≡ success tt → first ≤ last → last < T → SpanOfDay n T ws first last
 span-passed {n} {T} {ws} first last e h k =
-    let p = check-passed n T ws e in
-    record { limits = p .limits; enough = p .enough; day = p .day; rising = h; inside = k }
+    record { lent = check-passed n T ws e; rising = h; inside = k }
 
 -- the core numbers found from a span's rows, among the n badges, are those of the span
 module _ (n : ℕ) (ws : List ℕ) (first last : ℕ) (w : n ≤ capacity) where
-  rows-fewer : FewerPairs (full n) (graph (spanRows n ws first last)) (spanNeighbours n ws first last)
+  pub rows-fewer : FewerPairs (full n) (graph (spanRows n ws first last)) (spanNeighbours n ws first last)
   rows-fewer = record { pair = λ u v i j k. rw (span-row n ws first last u w (of-full n u i)) at k }
 
-  rows-more : FewerPairs (full n) (spanNeighbours n ws first last) (graph (spanRows n ws first last))
+  pub rows-more : FewerPairs (full n) (spanNeighbours n ws first last) (graph (spanRows n ws first last))
   rows-more = record { pair = λ u v i j k. rw (span-row n ws first last u w (of-full n u i)) k }
 
   pub numbers-found : (base : ℕ) → base ≡ full (min n capacity) → take n (coreNumbers (spanRows n ws first last) base) ≡ coreNumberBytes n ws first last

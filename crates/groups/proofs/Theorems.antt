@@ -62,7 +62,7 @@ numbers-unique xs ys x y = ext-getD 0 xs ys (x .badges ∙ sym (y .badges)) (λ 
 -- a day's span passes every judgement before 9
 module _ {n T : ℕ} {ws : List ℕ} {first last : ℕ} (d : SpanOfDay n T ws first last) (buffer : List ℕ) where
   passes : coreNumbersOf n T ws first last buffer ≡ deliver (success (coreNumberBytes n ws first last)) buffer
-  passes = numbers-passed n T ws first last buffer (check-day n T ws (d .limits) (d .enough) (d .day))
+  passes = numbers-passed n T ws first last buffer (check-day n T ws (d .lent .limits) (d .lent .enough) (d .lent .day))
       ∙ ap (λ (o : Outcome (List ℕ)). deliver o buffer) (judged-yes n T ws first last (d .rising) (d .inside))
 
   succeeds : (numbers : List ℕ) → AreCoreNumbers n ws first last numbers → n ≤ length buffer

@@ -9,6 +9,8 @@ use Rattle.log.specs.Buffers.{Delivered, deliver}
 use Rattle.log.specs.Calls.{checkOf}
 use Rattle.cores.specs.Orders.{coreNumber}
 use Rattle.groups.specs.Spans.{isSpan, spanNeighbours}
+use Rattle.groups.specs.Reports.{groupsOf}
+use Rattle.groups.specs.Encoding.{reportBytes}
 
 -- "core numbers (day words and a span to n bytes)": the core number of each of the n badges on the span, among all n badges
 unfoldable pub coreNumberBytes : ℕ → List ℕ → ℕ → ℕ → List ℕ
@@ -21,3 +23,7 @@ spanJudged n T ws first last = refuseIf (isnt (isSpan T first last)) 12 0 (succe
 -- core numbers. "Calls on words: 10, 8, 11 first, then core numbers 12, 9."
 unfoldable pub coreNumbersOf : ℕ → ℕ → List ℕ → ℕ → ℕ → List ℕ → Delivered
 coreNumbersOf n T ws first last buffer = deliver (andThen (checkOf n T ws) (λ x. spanJudged n T ws first last)) buffer
+
+-- report. "Calls on words: 10, 8, 11 first, then .. report 9."
+unfoldable pub reportOf : ℕ → ℕ → List ℕ → List ℕ → Delivered
+reportOf n T ws buffer = deliver (andThen (checkOf n T ws) (λ x. success (reportBytes n T (groupsOf n T ws)))) buffer

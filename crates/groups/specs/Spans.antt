@@ -1,26 +1,21 @@
 -- Spans of a day. "A span is a first and a last tick of the day, the first not after the last, with the ticks between; both ends count."
-use mathlib.Core.Bool.{Bool, true}
+use mathlib.Core.Bool.{Bool}
 use mathlib.Core.List.{List}
-use mathlib.Core.Path.{_≡_}
 use Prim.Native.Nat.{ℕ, suc, _≤_, _<_}
 use lib.Dec.{ltb, leb}
-use lib.ListN.{length}
 use Rattle.sets.specs.Bools.{_and_, _or_, all}
 use Rattle.sets.specs.Sets.{setOf, full}
 use Rattle.sets.specs.Members.{capacity}
 use Rattle.sets.specs.Tables.{tabulate, piecewise}
-use Rattle.records.specs.Limits.{withinLimits, wordsFor}
-use Rattle.log.specs.Days.{IsDay, adjacent}
+use Rattle.log.specs.Days.{LentDay, adjacent}
 
 -- first and last are a span of a day of T ticks
 unfoldable pub isSpan : ℕ → ℕ → ℕ → Bool
 isSpan T first last = leb first last and ltb last T
 
--- a span of a day, in words of which the first n×T are the day
+-- a span of a lent day
 pub record SpanOfDay (n T : ℕ) (ws : List ℕ) (first last : ℕ) : Type 0 where
-  pub limits : withinLimits n T ≡ true
-  pub enough : wordsFor n T ≤ length ws
-  pub day : IsDay n T ws
+  pub lent : LentDay n T ws
   pub rising : first ≤ last
   pub inside : last < T
 

@@ -1,11 +1,16 @@
 // The groups of a day: who stayed in contact with whom throughout a span of ticks. It uses what the log part guarantees of day words.
 //
-// `core_numbers` takes day words and a span to the core number of each badge.
+// `core_numbers` takes day words and a span to the core number of each badge, and `report` takes day words to the report of the day's
+// groups.
 mod answer;
+mod encoding;
+mod lines;
 mod numbers;
 mod refusal;
+mod reporting;
 mod spans;
 
 pub use answer::Written;
 pub use numbers::core_numbers;
 pub use refusal::Refusal;
+pub use reporting::report;

@@ -13,7 +13,7 @@ fn row_count(tick: &[u64]) -> usize
 }
 
 // The rows of one tick.
-fn tick_rows(tick: &[u64]) -> [u64; 64]
+pub(crate) fn tick_rows(tick: &[u64]) -> [u64; 64]
     ensures { λ r. ⌜ r ≡ tickRows (now (tick .entry)) ⌝ }
 {
     let mut out = [0u64; 64];
@@ -24,7 +24,7 @@ fn tick_rows(tick: &[u64]) -> [u64; 64]
 }
 
 // Rows narrowed by one tick more: of the neighbours of each badge, those that are in contact with it in that tick, too.
-fn narrow(rows: [u64; 64], tick: &[u64]) -> [u64; 64]
+pub(crate) fn narrow(rows: [u64; 64], tick: &[u64]) -> [u64; 64]
     ensures rows { λ r. ⌜ r ≡ narrowed rows (now (tick .entry)) ⌝ }
     ensures span { λ r. ⌜ Narrows rows (now (tick .entry)) r ⌝ }
 {

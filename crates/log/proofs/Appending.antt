@@ -13,20 +13,21 @@ use lib.ListN.{length, getD, take, length-append}
 use borrow.Author.Tests.{lt-ltb, ltb-true}
 use Rattle.sets.specs.Bools.{_and_, isnt}
 use Rattle.sets.specs.Sets.{In, has, union}
+use Rattle.sets.specs.Tables.{concatBelow, keepIf}
 use Rattle.sets.proofs.Bools.{and-left}
 use Rattle.sets.proofs.Sets.{in-test, out-test, in-union-left, in-union-right}
+use Rattle.sets.proofs.Concat.{concat-nil, keep-nil}
 use Rattle.records.specs.declared.record.Record.{Record}
 use Rattle.records.specs.declared.record.Record.the-variants.{Header, Contact, End}
 use Rattle.records.specs.Limits.{maxContacts, maxLogBytes}
 use Rattle.records.specs.Records.{encode, encodeAll}
 use Rattle.records.specs.Logs.{logRecords}
 use Rattle.records.proofs.Records.{length-encode, encode-append}
-use Rattle.log.specs.Buffers.{overwrite}
+use Rattle.log.specs.Buffers.{place}
 use Rattle.log.specs.Days.{neighbours, adjacent}
-use Rattle.log.specs.Tidy.{concatBelow, keepIf, runStart, runEnds, runAt, runsOf, tidyContacts, tidyLog}
+use Rattle.log.specs.Tidy.{runStart, runEnds, runAt, runsOf, tidyContacts, tidyLog}
 use Rattle.log.specs.Writing.{Appends, offsetAfter, unitedOf, startAfter, Encodes}
-use Rattle.log.proofs.Concat.{concat-nil, keep-nil}
-use Rattle.log.proofs.Delivering.{take-overwrite}
+use Rattle.log.proofs.Delivering.{take-place}
 use Rattle.log.proofs.Runs.{start-yes, start-not}
 
 -- nothing is appended
@@ -49,7 +50,7 @@ appends-full count buffer c h k = record { number = omega arith; bytes = λ l. a
 
 -- one contact record
 pub appends-contact : (count : ℕ) (buffer buffer′ : List ℕ) (a b first last : ℕ) → count < maxContacts → maxLogBytes ≤ length buffer
-    → buffer′ ≡ overwrite (offsetAfter count) (encode (Contact a b first last)) buffer → Appends (Contact a b first last ∷ []) count (count + 1) buffer buffer′
+    → buffer′ ≡ place (offsetAfter count) (encode (Contact a b first last)) buffer → Appends (Contact a b first last ∷ []) count (count + 1) buffer buffer′
 unfolding encodeAll
 appends-contact count buffer buffer′ a b first last h k e =
     let c = Contact a b first last in
@@ -57,7 +58,7 @@ appends-contact count buffer buffer′ a b first last h k e =
     let next : offsetAfter (count + 1) ≡ offsetAfter count + length (encode c) = omega arith in
     record {
       number = omega arith;
-      bytes = λ l. rw (next, e) (take-overwrite (offsetAfter count) (encode c) buffer (omega arith)) ∙ ap (λ (s : List ℕ). take (offsetAfter count) buffer ++ s) (sym (append-nil (encode c)));
+      bytes = λ l. rw (next, e) (take-place (offsetAfter count) (encode c) buffer (omega arith)) ∙ ap (λ (s : List ℕ). take (offsetAfter count) buffer ++ s) (sym (append-nil (encode c)));
     }
 
 -- a loop's turn: the next list
@@ -133,7 +134,7 @@ module _ (n T : ℕ) (ws : List ℕ) (count : ℕ) (header contacts : List ℕ) 
   encodes-many h = record { number = number; bytes = λ l. absurd (omega arith) }
 
   pub encodes-whole : (before whole : List ℕ) → count ≤ maxContacts → maxLogBytes ≤ length before → maxLogBytes ≤ length contacts
-      → header ≡ overwrite 0 (encode (Header n T)) before → whole ≡ overwrite (offsetAfter count) (encode (End count)) contacts → Encodes n T ws count whole
+      → header ≡ place 0 (encode (Header n T)) before → whole ≡ place (offsetAfter count) (encode (End count)) contacts → Encodes n T ws count whole
   unfolding tidyLog logRecords encodeAll
   encodes-whole before whole h k l f g =
       let cs = tidyContacts n T (adjacent n ws) in
@@ -141,11 +142,11 @@ module _ (n T : ℕ) (ws : List ℕ) (count : ℕ) (header contacts : List ℕ) 
       let last : length (encode (End count)) ≡ 6 = length-encode (End count) in
       let size : 10 + 6 * count ≡ offsetAfter count + length (encode (End count)) = omega arith in
       let few : count ≡ length cs = omega (arith, number) in
-      let start : take 4 header ≡ encode (Header n T) = rw (f, ← first) (take-overwrite 0 (encode (Header n T)) before (omega arith)) in
+      let start : take 4 header ≡ encode (Header n T) = rw (f, ← first) (take-place 0 (encode (Header n T)) before (omega arith)) in
       record {
         number = number;
         bytes = λ m.
-            rw (size, g) (take-overwrite (offsetAfter count) (encode (End count)) contacts (omega arith))
+            rw (size, g) (take-place (offsetAfter count) (encode (End count)) contacts (omega arith))
             ∙ ap₂ (λ (x y : List ℕ). x ++ y) (e .bytes h ∙ ap (λ (s : List ℕ). s ++ encodeAll cs) start) (ap (λ (c : ℕ). encode (End c)) few ∙ sym (append-nil (encode (End (length cs)))))
             ∙ sym (encode-append (Header n T ∷ cs) (End (length cs) ∷ []));
       }

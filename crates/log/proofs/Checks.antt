@@ -12,7 +12,7 @@ use Rattle.sets.specs.Bools.{isnt}
 use Rattle.sets.proofs.Bools.{clash, to-false, same-test}
 use Rattle.records.specs.Limits.{withinLimits, wordsFor}
 use Rattle.records.specs.Outcomes.{Outcome, refused, success, refuseIf}
-use Rattle.log.specs.Days.{neighbours, dayWords, IsDay, isDay}
+use Rattle.log.specs.Days.{neighbours, dayWords, IsDay, LentDay, isDay}
 use Rattle.log.specs.Calls.{checkOf}
 use Rattle.log.proofs.Days.{day-length, neighbours-append, relation-day, day-head}
 use Rattle.log.proofs.Scan.{day-in, day-of}
@@ -37,28 +37,23 @@ pub check-day : (n T : ℕ) (ws : List ℕ) → withinLimits n T ≡ true → wo
 unfolding checkOf refuseIf isnt
 check-day n T ws e h d = rw (e, le-ltb _ _ h, day-in n T ws d)
 
--- words that pass: n and T are within their limits, there are n×T words or more, and they are a day
-pub record Passed (n T : ℕ) (ws : List ℕ) : Type 0 where
-  pub limits : withinLimits n T ≡ true
-  pub enough : wordsFor n T ≤ length ws
-  pub day : IsDay n T ws
-
 -- no outcome is both a refusal and a success
 not-both : {o : Outcome (Unit {0})} {number offset : ℕ} → o ≡ refused number offset → o ≡ success tt → ⊥
 not-both {o} {number} {offset} e f = let z : _≡_ {A = ℕ} 0 1 = cc in omega arith
 
-pub check-passed : (n T : ℕ) (ws : List ℕ) → checkOf n T ws ≡ success tt → Passed n T ws
+-- words that pass are a day's
+pub check-passed : (n T : ℕ) (ws : List ℕ) → checkOf n T ws ≡ success tt → LentDay n T ws
 check-passed n T ws e = limits (withinLimits n T) refl
   where
-    day : withinLimits n T ≡ true → wordsFor n T ≤ length ws → (b : Bool) → isDay n T ws ≡ b → Passed n T ws
+    day : withinLimits n T ≡ true → wordsFor n T ≤ length ws → (b : Bool) → isDay n T ws ≡ b → LentDay n T ws
     day l h true f = record { limits = l; enough = h; day = day-of n T ws f }
     day l h false f = absurd (not-both (check-broken n T ws l h (λ d. clash (day-in n T ws d) f)) e)
 
-    enough : withinLimits n T ≡ true → (b : Bool) → ltb (length ws) (wordsFor n T) ≡ b → Passed n T ws
+    enough : withinLimits n T ≡ true → (b : Bool) → ltb (length ws) (wordsFor n T) ≡ b → LentDay n T ws
     enough l true f = absurd (not-both (check-few n T ws l (ltb-true _ _ f)) e)
     enough l false f = day l (ltb-false _ _ f) (isDay n T ws) refl
 
-    limits : (b : Bool) → withinLimits n T ≡ b → Passed n T ws
+    limits : (b : Bool) → withinLimits n T ≡ b → LentDay n T ws
     limits true f = enough f (ltb (length ws) (wordsFor n T)) refl
     limits false f = absurd (not-both (check-limits n T ws f) e)
 

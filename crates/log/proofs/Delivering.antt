@@ -7,11 +7,11 @@ use native.Mathlib.Nat.{zero-add}
 use native.Mathlib.Omega.{arith}
 use lib.ListN.{length, take, drop}
 use lib.Seq.{paste, take-length, take-paste}
-use borrow.Author.Tests.{lt-ltb, le-ltb}
+use borrow.Author.Tests.{lt-ltb, le-ltb, le-leb, lt-leb}
 use Rattle.records.specs.Limits.{maxContacts, withinLimits, wordsFor}
 use Rattle.records.specs.Outcomes.{Outcome, refused, success, refuseIf, andThen}
 use Rattle.records.proofs.WithinLimits.{limits-of}
-use Rattle.log.specs.Buffers.{deliver, overwrite}
+use Rattle.log.specs.Buffers.{deliver, overwrite, place}
 use Rattle.log.specs.Days.{adjacent}
 use Rattle.log.specs.Tidy.{tidyContacts, tidyLog}
 use Rattle.log.specs.Writing.{Writable, Encodes}
@@ -26,16 +26,25 @@ pub overwrite-paste : (at : ℕ) (bytes buffer : List ℕ) → overwrite at byte
 unfolding overwrite
 overwrite-paste at bytes buffer = rw (take-length bytes) (sym (append-assoc (take at buffer) bytes (drop (at + length bytes) buffer)))
 
--- the front of the buffer, up to their end
-pub take-overwrite : (at : ℕ) (bytes buffer : List ℕ) → at + length bytes ≤ length buffer → take (at + length bytes) (overwrite at bytes buffer) ≡ take at buffer ++ bytes
-take-overwrite at bytes buffer h =
-    rw (overwrite-paste at bytes buffer)
-    (take-paste buffer at bytes (length bytes) (omega arith) (omega arith) ∙ ap (λ (s : List ℕ). take at buffer ++ s) (take-length bytes))
-
 -- bytes laid over a buffer from its start on
 pub overwrite-front : (bytes buffer : List ℕ) → overwrite 0 bytes buffer ≡ bytes ++ drop (length bytes) buffer
 unfolding overwrite
 overwrite-front bytes buffer = rw (zero-add (length bytes))
+
+-- bytes that the buffer holds from an offset on are laid over it, and those that it does not hold leave it as it is
+pub place-fits : (at : ℕ) (bytes buffer : List ℕ) → at + length bytes ≤ length buffer → place at bytes buffer ≡ overwrite at bytes buffer
+unfolding place
+place-fits at bytes buffer h = rw (place, le-leb (at + length bytes) (length buffer) h)
+
+pub place-not : (at : ℕ) (bytes buffer : List ℕ) → length buffer < at + length bytes → place at bytes buffer ≡ buffer
+unfolding place
+place-not at bytes buffer h = rw (place, lt-leb (at + length bytes) (length buffer) h)
+
+-- the front of a buffer that holds them, up to their end
+pub take-place : (at : ℕ) (bytes buffer : List ℕ) → at + length bytes ≤ length buffer → take (at + length bytes) (place at bytes buffer) ≡ take at buffer ++ bytes
+take-place at bytes buffer h =
+    rw (place-fits at bytes buffer h, overwrite-paste at bytes buffer)
+    (take-paste buffer at bytes (length bytes) (omega arith) (omega arith) ∙ ap (λ (s : List ℕ). take at buffer ++ s) (take-length bytes))
 
 -- more than 8,000 contact records are refused, and no more than that make the tidy log
 module _ (number n T : ℕ) (r : ℕ → ℕ → ℕ → Bool) where

@@ -5,8 +5,8 @@ use Prim.Native.Nat.{ℕ}
 use lib.ListN.{length, replicate}
 use Rattle.sets.specs.Bools.{_and_, _or_, isnt, all}
 use Rattle.sets.specs.Sets.{bit, setOf}
-use Rattle.sets.specs.Tables.{tabulate}
 use Rattle.sets.specs.Bytes.{littleEndian, fromLittleEndian}
+use Rattle.sets.specs.Tables.{tabulate, concatBelow, keepIf}
 use Rattle.records.specs.declared.record.Record.{Record}
 use Rattle.records.specs.declared.record.Record.the-variants.{Contact}
 use Rattle.records.specs.Limits.{withinLimits}
@@ -18,7 +18,7 @@ use Rattle.records.specs.Verdicts.{valuesOf}
 use Rattle.records.specs.Logs.{logRecords}
 use Rattle.log.specs.Days.{neighbours, adjacent, tickWords, dayWords, dayOf, isTick, isDay}
 use Rattle.log.specs.Calls.{readJudged, readOf, checkOf, tidyBytes, writeOf, tidyBefore9, tidyOf}
-use Rattle.log.specs.Tidy.{concatBelow, keepIf, runStart, runEnds, runAt, runsOf, rowRuns, tidyContacts, tidyLog}
+use Rattle.log.specs.Tidy.{runStart, runEnds, runAt, runsOf, rowRuns, tidyContacts, tidyLog}
 use Rattle.log.specs.Buffers.{deliver}
 use Rattle.log.specs.Tidying.{tidiedJudged, tidiedOf}
 

@@ -8,7 +8,6 @@ pub mod Scan
 pub mod Checks
 -- the runs of a pair, and the tidy form
 pub mod Runs
-pub mod Concat
 pub mod TidyForm
 pub mod TidyCount
 -- the tidy log: its runs appended one after the other, and the whole put into a buffer

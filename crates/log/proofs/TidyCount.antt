@@ -11,7 +11,9 @@ use lib.Dec.{ltb, eqb}
 use lib.ListN.{length, length-append}
 use borrow.Author.Tests.{ltb-true, ltb-false, lt-ltb, eqb-true, eq-eqb}
 use Rattle.sets.specs.Bools.{_and_, _or_}
+use Rattle.sets.specs.Tables.{concatBelow, keepIf}
 use Rattle.sets.proofs.Bools.{clash, and-in, and-left, and-right, or-left, or-right, or-of, isnt-of}
+use Rattle.sets.proofs.Concat.{concat-nil, keep-nil}
 use Rattle.records.specs.declared.record.Record.{Record}
 use Rattle.records.specs.declared.record.Record.the-variants.{Header, Contact, End}
 use Rattle.records.specs.Judging.{validContact}
@@ -20,8 +22,7 @@ use Rattle.records.specs.Logs.{Mem, logRecords}
 use Rattle.records.proofs.Judged.{Valid, valid-of, by-contact}
 use Rattle.records.proofs.Meaning.{Covers, covers-of, covers-in}
 use Rattle.records.proofs.Theorems.{met-in, met-of}
-use Rattle.log.specs.Tidy.{concatBelow, keepIf, runStart, runEnds, runAt, runsOf, rowRuns, tidyContacts}
-use Rattle.log.proofs.Concat.{concat-nil, keep-nil}
+use Rattle.log.specs.Tidy.{runStart, runEnds, runAt, runsOf, rowRuns, tidyContacts}
 
 -- how many records there are in lists one after the other
 concat-le : (m : ℕ) (f g h : ℕ → List Record) → ((i : ℕ) → i < m → length (f i) ≤ length (g i) + length (h i)) → length (concatBelow m f) ≤ length (concatBelow m g) + length (concatBelow m h)

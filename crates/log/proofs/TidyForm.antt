@@ -9,6 +9,8 @@ use native.Mathlib.Nat.{le-refl, eq-or-lt-of-le}
 use native.Mathlib.Omega.{arith}
 use lib.Dec.{ltb}
 use borrow.Author.Tests.{ltb-true, ltb-false, lt-ltb}
+use Rattle.sets.specs.Tables.{concatBelow, keepIf}
+use Rattle.sets.proofs.Concat.{in-concat, of-concat, in-keep, of-keep}
 use Rattle.records.specs.declared.record.Record.{Record}
 use Rattle.records.specs.declared.record.Record.the-variants.{Header, Contact, End}
 use Rattle.records.specs.Judging.{validContact}
@@ -16,8 +18,7 @@ use Rattle.records.specs.Meaning.{covers}
 use Rattle.records.specs.Logs.{Mem, Met}
 use Rattle.records.proofs.Judged.{valid-in}
 use Rattle.records.proofs.Meaning.{Covers, covers-of, covers-in, covers-swap}
-use Rattle.log.specs.Tidy.{Run, IsRun, smallerOf, largerOf, firstOf, Before, by-smaller, by-larger, by-first, Sorted, nothing, followed, IsTidy, concatBelow, keepIf, runStart, runEnds, runAt, runsOf, rowRuns, tidyContacts}
-use Rattle.log.proofs.Concat.{in-concat, of-concat, in-keep, of-keep}
+use Rattle.log.specs.Tidy.{Run, IsRun, smallerOf, largerOf, firstOf, Before, by-smaller, by-larger, by-first, Sorted, nothing, followed, IsTidy, runStart, runEnds, runAt, runsOf, rowRuns, tidyContacts}
 use Rattle.log.proofs.Runs.{run-of, of-run, in-run, run-gap, run-meet}
 
 -- a record is in the runs of a pair exactly when it is of a run of the pair

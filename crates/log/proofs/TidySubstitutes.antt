@@ -10,6 +10,7 @@ use lib.Seq.{take-at}
 use lib.ListN.{take}
 use Rattle.sets.specs.Bools.{_and_, _or_, isnt}
 use Rattle.sets.specs.Bytes.{littleEndian}
+use Rattle.sets.specs.Tables.{concatBelow, keepIf}
 use Rattle.sets.proofs.Sets.{not-in-none}
 use Rattle.sets.proofs.Bools.{and-left, and-right}
 use Rattle.records.specs.declared.record.Record.{Record}
@@ -22,7 +23,7 @@ use Rattle.records.specs.Meaning.{covers, inContact}
 use Rattle.records.specs.Logs.{Mem, logRecords, IsLog}
 use Rattle.records.proofs.Outcomes.{refused-success, success-same}
 use Rattle.log.specs.Days.{neighbours}
-use Rattle.log.specs.Tidy.{concatBelow, keepIf, runStart, runEnds, runAt, runsOf, rowRuns, tidyContacts, tidyLog}
+use Rattle.log.specs.Tidy.{runStart, runEnds, runAt, runsOf, rowRuns, tidyContacts, tidyLog}
 use Rattle.log.specs.Calls.{Read, Tidied}
 use Rattle.log.specs.Tidying.{SameMeaning, HasTidied, FoundShort, Tidies}
 use Rattle.log.proofs.TidyForm.{tidy-unique}

@@ -38,7 +38,7 @@ module _ (n T : ℕ) (ws : List ℕ) (runs : List Record) (h : HasRuns n T ws ru
   runs-are = tidy-unique _ _ (h .tidy) (tidy-meet n T _ _ _ (λ t u v a b c. (eqb-true _ _, eq-eqb _ _)) (tidy-form n T (adjacent n ws)))
 
   passes : (buffer : List ℕ) → writeOf n T ws buffer ≡ deliver (tidyBytes 15 n T (adjacent n ws)) buffer
-  passes buffer = write-passed n T ws buffer (check-day n T ws (h .limits) (h .enough) (h .day))
+  passes buffer = write-passed n T ws buffer (check-day n T ws (h .lent .limits) (h .lent .enough) (h .lent .day))
 
   whole : (buffer : List ℕ) → length runs ≤ maxContacts → writeOf n T ws buffer ≡ deliver (success (logBytes n T runs)) buffer
   unfolding tidyLog
@@ -60,25 +60,25 @@ module _ (n T : ℕ) (ws : List ℕ) (runs : List Record) (h : HasRuns n T ws ru
   met-neighbours : (t u v : ℕ) → t < T → u < n → In (neighbours n ws t u) v ↔ Met runs t u v
   unfolding adjacent
   met-neighbours t u v a b = subst (λ (cs : List Record). In (neighbours n ws t u) v ↔ Met cs t u v) (sym runs-are) (
-    λ i. tidy-met-in n T (adjacent n ws) apart both t u v a b (in-lt n _ v (h .day .tick t a .within u b) i) (eq-eqb _ _ i),
+    λ i. tidy-met-in n T (adjacent n ws) apart both t u v a b (in-lt n _ v (h .lent .day .tick t a .within u b) i) (eq-eqb _ _ i),
     λ m. eqb-true _ _ (tidy-met-of n T (adjacent n ws) apart both t u v m .3),
   )
     where
       apart : (t u : ℕ) → t < T → u < n → adjacent n ws t u u ≡ true → ⊥
-      apart t u a b e = h .day .tick t a .irreflexive u b (eqb-true _ _ e)
+      apart t u a b e = h .lent .day .tick t a .irreflexive u b (eqb-true _ _ e)
 
       both : (t u v : ℕ) → t < T → u < n → v < n → adjacent n ws t u v ≡ true → adjacent n ws t v u ≡ true
-      both t u v a b c e = eq-eqb _ _ (h .day .tick t a .symmetric u v b c (eqb-true _ _ e))
+      both t u v a b c e = eq-eqb _ _ (h .lent .day .tick t a .symmetric u v b c (eqb-true _ _ e))
 
   module _ (k : length runs ≤ maxContacts) where
     pub written-log : IsLog (logBytes n T runs) n T runs
-    written-log = record { limits = h .limits; few = k; valid = λ c m. tidy-valid n T (adjacent n ws) c (subst (Mem c) runs-are m); bytes = refl }
+    written-log = record { limits = h .lent .limits; few = k; valid = λ c m. tidy-valid n T (adjacent n ws) c (subst (Mem c) runs-are m); bytes = refl }
 
     written-words : take (wordsFor n T) ws ≡ dayWords n T (inContact (logRecords n T runs))
-    written-words = day-by n T _ _ (length-take-le (wordsFor n T) ws (h .enough))
+    written-words = day-by n T _ _ (length-take-le (wordsFor n T) ws (h .lent .enough))
         (λ t u v a b i.
         let j : In (neighbours n ws t u) v = rw (neighbours-take n T ws t u a b) at i in
-        (in-lt n _ v (h .day .tick t a .within u b) j, met-in n T runs t u v (met-neighbours t u v a b .0 j)))
+        (in-lt n _ v (h .lent .day .tick t a .within u b) j, met-in n T runs t u v (met-neighbours t u v a b .0 j)))
         (λ t u v a b c e. rw (neighbours-take n T ws t u a b) (met-neighbours t u v a b .1 (met-of n T runs t u v e)))
 
     pub write-back : (lent : List ℕ) → wordsFor n T ≤ length lent

@@ -2,7 +2,7 @@
 use mathlib.Core.Bool.{true, false}
 use mathlib.Core.List.{List, _++_}
 use Prim.Native.Nat.{ℕ, _+_}
-use lib.Dec.{ltb}
+use lib.Dec.{leb, ltb}
 use lib.ListN.{length, take, drop}
 use Rattle.records.specs.Outcomes.{Outcome, refused, success}
 
@@ -23,3 +23,7 @@ deliver (success bytes) buffer = elim (ltb (length buffer) (length bytes)) [
 -- bytes laid over a buffer from an offset on
 unfoldable pub overwrite : ℕ → List ℕ → List ℕ → List ℕ
 overwrite at bytes buffer = take at buffer ++ (bytes ++ drop (at + length bytes) buffer)
+
+-- the same where the buffer holds them there, and the buffer as it is where it does not
+unfoldable pub place : ℕ → List ℕ → List ℕ → List ℕ
+place at bytes buffer = elim (leb (at + length bytes) (length buffer)) [ true ↦ overwrite at bytes buffer | false ↦ buffer ]

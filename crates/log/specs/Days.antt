@@ -1,14 +1,16 @@
 -- The day in words: "word t×n+u has bit v set exactly when u and v are in contact in tick t".
 -- (A day is a temporal graph over T timestamps; the words of one tick are a snapshot's adjacency rows.)
-use mathlib.Core.Bool.{Bool}
+use mathlib.Core.Bool.{Bool, true}
 use mathlib.Core.List.{List, [], _++_}
-use Prim.Native.Nat.{ℕ, zero, suc, _+_, _*_, _^_, _<_}
+use mathlib.Core.Path.{_≡_}
+use Prim.Native.Nat.{ℕ, zero, suc, _+_, _*_, _^_, _≤_, _<_}
 use lib.Dec.{ltb}
-use lib.ListN.{getD}
+use lib.ListN.{length, getD}
 use Rattle.sets.specs.Bools.{_and_, _or_, isnt, all}
 use Rattle.sets.specs.Sets.{In, has, setOf}
 use Rattle.sets.specs.Tables.{tabulate}
 use Rattle.records.specs.declared.record.Record.{Record}
+use Rattle.records.specs.Limits.{withinLimits, wordsFor}
 use Rattle.records.specs.Meaning.{badgesOf, ticksOf, inContact}
 
 -- the badges in contact with u in tick t of a day of n badges, as a set
@@ -42,7 +44,13 @@ pub record IsTick (n : ℕ) (row : ℕ → ℕ) : Type 0 where
 pub record IsDay (n T : ℕ) (ws : List ℕ) : Type 0 where
   pub tick : (t : ℕ) → t < T → IsTick n (neighbours n ws t)
 
--- the same as tests
+-- lent words of which the first n×T are a day
+pub record LentDay (n T : ℕ) (ws : List ℕ) : Type 0 where
+  pub limits : withinLimits n T ≡ true
+  pub enough : wordsFor n T ≤ length ws
+  pub day : IsDay n T ws
+
+-- the tests whether rows are those of a tick, and words a day
 unfoldable pub isTick : ℕ → (ℕ → ℕ) → Bool
 isTick n row = all n (λ u. isnt (has (row u) u) and ltb (row u) (2 ^ n) and all n (λ v. isnt (has (row u) v) or has (row v) u))
 

@@ -1,12 +1,13 @@
 -- The tidy form of a day (the canonical form of a log): "A tidy log has the smaller badge first in each CT, one CT for each unbroken
 -- run of ticks of a pair (touching runs joined), ordered by smaller badge, larger badge, first tick." First in words, then as a list.
 use mathlib.Core.Bool.{Bool, true, false}
-use mathlib.Core.List.{List, [], _∷_, _++_}
+use mathlib.Core.List.{List, [], _∷_}
 use mathlib.Core.Logic.{_↔_}
 use mathlib.Core.Path.{_≡_}
 use Prim.Native.Nat.{ℕ, zero, suc, _≤_, _<_}
 use lib.Dec.{ltb}
 use Rattle.sets.specs.Bools.{_and_, isnt}
+use Rattle.sets.specs.Tables.{concatBelow, keepIf}
 use Rattle.records.specs.declared.record.Record.{Record}
 use Rattle.records.specs.declared.record.Record.the-variants.{Header, Contact, End}
 use Rattle.records.specs.Records.{encodeAll}
@@ -59,17 +60,7 @@ pub record IsTidy (n T : ℕ) (meet : ℕ → ℕ → ℕ → Type 0) (cts : Lis
   pub exactly : (c : Record) → Mem c cts ↔ IsRun n T meet c
   pub sorted : Sorted cts
 
--- The same as a list that is worked out. The lists of 0 to m - 1, one after the other:
-unfoldable pub concatBelow : ℕ → (ℕ → List Record) → List Record
-concatBelow zero f = []
-concatBelow (suc m) f = concatBelow m f ++ f m
-
--- a list where a test holds, and nothing where it does not
-unfoldable pub keepIf : Bool → List Record → List Record
-keepIf true cs = cs
-keepIf false cs = []
-
--- the first tick of the unbroken run that leads up to tick t
+-- The same as a list that is worked out. The first tick of the unbroken run that leads up to tick t:
 unfoldable pub runStart : (ℕ → Bool) → ℕ → ℕ
 runStart p zero = 0
 runStart p (suc t) = elim (p t) [ true ↦ runStart p t | false ↦ suc t ]

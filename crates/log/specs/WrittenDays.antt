@@ -1,25 +1,22 @@
 -- What writing promises, over any call that takes n, T, words and a buffer.
-use mathlib.Core.Bool.{true}
 use mathlib.Core.List.{List, _++_}
 use mathlib.Core.Path.{_≡_}
 use Prim.Native.Nat.{ℕ, _≤_, _<_}
 use lib.ListN.{length, take, drop}
 use Rattle.sets.specs.Sets.{In}
 use Rattle.records.specs.declared.record.Record.{Record}
-use Rattle.records.specs.Limits.{maxContacts, withinLimits, wordsFor}
+use Rattle.records.specs.Limits.{maxContacts, wordsFor}
 use Rattle.records.specs.Records.{encodeAll}
 use Rattle.records.specs.Outcomes.{refused, success}
 use Rattle.records.specs.Logs.{logRecords}
-use Rattle.log.specs.Days.{neighbours, IsDay}
+use Rattle.log.specs.Days.{neighbours, LentDay}
 use Rattle.log.specs.Tidy.{IsTidy}
 use Rattle.log.specs.Buffers.{Delivered}
 use Rattle.log.specs.Calls.{Read}
 
 -- words of which the first n×T are a day, and the unbroken runs of its pairs, in order
 pub record HasRuns (n T : ℕ) (ws : List ℕ) (runs : List Record) : Type 0 where
-  pub limits : withinLimits n T ≡ true
-  pub enough : wordsFor n T ≤ length ws
-  pub day : IsDay n T ws
+  pub lent : LentDay n T ws
   pub tidy : IsTidy n T (λ t u v. In (neighbours n ws t u) v) runs
 
 -- the bytes of a log of these contact records

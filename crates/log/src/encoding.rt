@@ -1,28 +1,30 @@
 // Records put into a buffer in their bytes.
 ghost use mathlib.Core.Path.{_≡_};
 ghost use mathlib.Core.List.{_∷_, []};
-ghost use Prim.Native.Nat.{_+_, _≤_};
-ghost use lib.ListN.{length};
-ghost use Rattle.records.specs.Records.{kindOf, sizeOf, encode};
-ghost use Rattle.log.specs.Buffers.{overwrite};
+ghost use Rattle.records.specs.Records.{encode};
+ghost use Rattle.log.specs.Buffers.{place};
 ghost use Rattle.log.specs.Writing.{Appends, Roomy};
 use records::MAX_CONTACTS;
 use records::Record;
 
-// Lays bytes over a buffer from an offset on.
-pub(crate) fn put(buffer: &mut [u8], at: usize, bytes: &[u8])
-    requires { ⌜ at + length (now bytes) ≤ length (now buffer) ⌝ }
-    ensures { λ _. ⌜ now (buffer .exit) ≡ overwrite at (now (bytes .entry)) (now (buffer .entry)) ⌝ }
+// Lays bytes over a buffer from an offset on. Where the buffer does not hold them there, it stays as it is.
+pub fn put(buffer: &mut [u8], at: usize, bytes: &[u8])
+    ensures { λ _. ⌜ now (buffer .exit) ≡ place at (now (bytes .entry)) (now (buffer .entry)) ⌝ }
 {
+    if buffer.len() < bytes.len() {
+        return;
+    }
+    if buffer.len() - bytes.len() < at {
+        return;
+    }
     for i in 0..bytes.len() {
         buffer[at + i] = bytes[i];
     }
 }
 
-// Puts a record, in its bytes, at an offset.
-pub(crate) fn put_record(buffer: &mut [u8], at: usize, record: Record)
-    requires { ⌜ at + sizeOf (kindOf «record») ≤ length (now buffer) ⌝ }
-    ensures { λ _. ⌜ now (buffer .exit) ≡ overwrite at (encode «record») (now (buffer .entry)) ⌝ }
+// Puts a record, in its bytes, at an offset. Where the buffer does not hold it there, it stays as it is.
+pub fn put_record(buffer: &mut [u8], at: usize, record: Record)
+    ensures { λ _. ⌜ now (buffer .exit) ≡ place at (encode «record») (now (buffer .entry)) ⌝ }
 {
     match record {
         Record::Header { badges, ticks } => {

@@ -1,7 +1,8 @@
 // Contact logs, and the day that they say, in words that the host lends.
 //
 // `read` takes a log into day words, `write` takes day words to their tidy log, and `tidy` takes a log to its tidy log; `check_words` is
-// the check that every call on words begins with, and `deliver` puts an answer into the buffer that is lent. Nothing here knows of groups.
+// the check that every call on words begins with, and `deliver` puts an answer into the buffer that is lent, `put` and `put_record` bytes and
+// records into memory of one's own. Nothing here knows of groups.
 mod checking;
 mod day;
 mod encoding;
@@ -12,7 +13,10 @@ mod writing;
 
 pub use checking::Checked;
 pub use checking::check_words;
+pub use encoding::put;
+pub use encoding::put_record;
 pub use reading::read;
+pub use records::Record;
 pub use records::Refusal;
 pub use records::Verdict;
 pub use tidying::tidy;

@@ -7,3 +7,5 @@ pub mod Smallest
 pub mod Bytes
 pub mod Tables
 pub mod Walks
+pub mod Concat
+pub mod Pairwise

@@ -37,7 +37,7 @@ here : (c : tie.Else2) → let a = c .before .before .before .before .args in Sp
 here c = span-passed _ _ (c .before .before .before .before .pre) (omega (arith, c .before .if1 .left)) (omega (arith, c .if2 .left))
 
 few : (c : tie.Else2) → c .before .before .before .before .args .badges ≤ capacity
-few c = limits-of (here c .limits) .few
+few c = limits-of (here c .lent .limits) .few
 
 -- the numbers found, of the n badges, are the bytes
 bytes : (c : tie.After-core-numbers) →

@@ -10,8 +10,9 @@ use borrow.Author.Needs.{needs}
 use borrow.Author.Tests.{not-true}
 use Rattle.sets.specs.Bools.{_and_}
 use Rattle.sets.specs.Sets.{has}
+use Rattle.sets.specs.Tables.{concatBelow}
 use Rattle.log.specs.Days.{adjacent}
-use Rattle.log.specs.Tidy.{concatBelow, runStart, runAt, runsOf}
+use Rattle.log.specs.Tidy.{runStart, runAt, runsOf}
 use Rattle.log.specs.Writing.{Appends, unitedOf}
 use Rattle.log.proofs.Runs.{start-le}
 use Rattle.log.proofs.Appending.{appends-none, never-met, runs-more, start-more}

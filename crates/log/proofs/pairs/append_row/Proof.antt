@@ -4,8 +4,9 @@ use Prim.Native.Nat.{_-_, _≤_}
 use native.Mathlib.Omega.{arith}
 use lib.ListN.{length}
 use borrow.Author.Needs.{needs}
+use Rattle.sets.specs.Tables.{concatBelow}
 use Rattle.log.specs.Days.{adjacent}
-use Rattle.log.specs.Tidy.{concatBelow, rowRuns}
+use Rattle.log.specs.Tidy.{rowRuns}
 use Rattle.log.specs.Writing.{Appends}
 use Rattle.log.proofs.Appending.{appends-none, largerRuns, row-none, row-more}
 use Rattle.log.proofs.pairs.append_row.Statement.{statement}

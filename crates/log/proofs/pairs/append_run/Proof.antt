@@ -5,7 +5,7 @@ use native.Mathlib.Omega.{arith}
 use borrow.Author.Tests.{not-true, not-false}
 use borrow.Author.Needs.{needs}
 use Rattle.sets.specs.Bools.{_and_, isnt}
-use Rattle.log.specs.Tidy.{keepIf}
+use Rattle.sets.specs.Tables.{keepIf}
 use Rattle.log.proofs.Appending.{appends-none}
 use Rattle.log.proofs.pairs.append_run.Statement.{statement}
 use Rattle.log.proofs.pairs.append_run.Tie as tie

@@ -1,0 +1,114 @@
+-- Laws of records that are appended to a buffer: their bytes one after the other, and the loop over the last ticks of the spans with one first tick.
+use mathlib.Core.Path.{_≡_, refl, sym, ap, _∙_, subst}
+use mathlib.Core.Bool.{Bool, true, false}
+use mathlib.Core.List.{List, [], _∷_, _++_, append-assoc, append-nil}
+use Prim.Native.Nat.{ℕ, zero, suc, _+_, _*_, _≤_, _<_}
+use native.Mathlib.Nat.{le-refl, suc-mul}
+use native.Mathlib.Numerals.{add-one}
+use native.Mathlib.Omega.{arith}
+use lib.Dec.{leb, ltb}
+use lib.ListN.{length, getD, take, length-append}
+use lib.Seq.{length-paste}
+use borrow.Author.Tests.{le-leb, leb-true}
+use Rattle.sets.specs.Tables.{concatBelow, keepIf}
+use Rattle.sets.proofs.Bytes.{length-little-endian}
+use Rattle.sets.proofs.Concat.{concat-nil, keep-nil, keep-all}
+use Rattle.log.specs.Buffers.{place}
+use Rattle.log.proofs.Delivering.{overwrite-paste, place-fits, take-place}
+use Rattle.groups.specs.SpanCores.{SpanCore}
+use Rattle.groups.specs.Encoding.{encodeCore, encodeCores}
+use Rattle.groups.specs.Appending.{AppendsCores, lineList}
+
+-- a record has 13 bytes
+pub encode-core-length : (a b : ℕ) (c : SpanCore) → length (encodeCore a b c) ≡ 13
+unfolding encodeCore
+encode-core-length a b c = omega (arith, length-little-endian 8 (c .members))
+
+-- records one after the other
+pub encode-cores-length : (a b : ℕ) (cs : List SpanCore) → length (encodeCores a b cs) ≡ 13 * length cs
+unfolding encodeCores
+encode-cores-length a b [] = refl
+encode-cores-length a b (c ∷ cs) = omega (arith, length-append (encodeCore a b c) (encodeCores a b cs), encode-core-length a b c, encode-cores-length a b cs)
+
+pub encode-cores-append : (a b : ℕ) (xs ys : List SpanCore) → encodeCores a b (xs ++ ys) ≡ encodeCores a b xs ++ encodeCores a b ys
+unfolding encodeCores
+encode-cores-append a b [] ys = refl
+encode-cores-append a b (x ∷ xs) ys = rw (encode-cores-append a b xs ys, append-assoc)
+
+module _ {a b header : ℕ} where
+  -- nothing is appended
+  pub appends-none : {count : ℕ} {buffer : List ℕ} → AppendsCores a b header [] count count buffer buffer
+  unfolding encodeCores
+  appends-none = record { number = omega arith; size = refl; bytes = sym (append-nil _) }
+
+  -- one list after another
+  pub appends-then : {xs ys : List SpanCore} {i j k : ℕ} {x y z : List ℕ} → AppendsCores a b header xs i j x y → AppendsCores a b header ys j k y z
+      → AppendsCores a b header (xs ++ ys) i k x z
+  appends-then {xs} {ys} {i} {j} {k} {x} {y} {z} e f = record {
+    number = omega (arith, e .number, f .number, length-append xs ys);
+    size = f .size ∙ e .size;
+    bytes =
+        f .bytes ∙ ap (λ (s : List ℕ). s ++ encodeCores a b ys) (e .bytes) ∙ append-assoc (take (header + 13 * i) x) (encodeCores a b xs) (encodeCores a b ys)
+        ∙ ap (λ (s : List ℕ). take (header + 13 * i) x ++ s) (sym (encode-cores-append a b xs ys));
+  }
+
+  -- one record
+  pub appends-one : (c : SpanCore) {count : ℕ} {buffer buffer′ : List ℕ} → header + 13 * count + 13 ≤ length buffer
+      → buffer′ ≡ place (header + 13 * count) (encodeCore a b c) buffer → AppendsCores a b header (c ∷ []) count (count + 1) buffer buffer′
+  unfolding encodeCores
+  appends-one c {count} {buffer} {buffer′} h e =
+      let at = header + 13 * count in
+      let bytes = encodeCore a b c in
+      let long : length bytes ≡ 13 = encode-core-length a b c in
+      let next : header + 13 * (count + 1) ≡ at + length bytes = omega arith in
+      record {
+        number = omega arith;
+        size = rw (e, place-fits at bytes buffer (omega arith), overwrite-paste at bytes buffer) (length-paste buffer at bytes (length bytes) (omega arith) (omega arith));
+        bytes = rw (next, e) (take-place at bytes buffer (omega arith)) ∙ ap (λ (s : List ℕ). take at buffer ++ s) (sym (append-nil bytes));
+      }
+
+  -- a loop's turn: the next list
+  pub appends-more : (f : ℕ → List SpanCore) (m : ℕ) {i j k : ℕ} {x y z : List ℕ} → AppendsCores a b header (concatBelow m f) i j x y
+      → AppendsCores a b header (f m) j k y z → AppendsCores a b header (concatBelow (m + 1) f) i k x z
+  unfolding concatBelow
+  appends-more f m e g = rw add-one (appends-then e g)
+
+-- a test keeps no more than there is, and m lists of at most k records each have at most m * k
+pub keep-le : (t : Bool) (cs : List SpanCore) → length (keepIf t cs) ≤ length cs
+unfolding keepIf
+keep-le true cs = omega arith
+keep-le false cs = omega arith
+
+pub concat-le : (f : ℕ → List SpanCore) (k : ℕ) (m : ℕ) → ((i : ℕ) → i < m → length (f i) ≤ k) → length (concatBelow m f) ≤ m * k
+unfolding concatBelow
+concat-le f k zero h = omega arith
+concat-le f k (suc m) h = omega (arith, length-append (concatBelow m f) (f m), concat-le f k m (λ i l. h i (omega arith)), h m (le-refl _), suc-mul m k)
+
+module _ (orders members : List ℕ) (first : ℕ) where
+  -- the record of the span that ends with a tick, and the list of it where that tick is not before the first and there are members
+  abbrev pub spanRecord : ℕ → SpanCore
+  spanRecord last = record { order = getD orders last 0; first = first; last = last; members = getD members last 0 }
+
+  abbrev pub lineCell : ℕ → List SpanCore
+  lineCell last = keepIf (leb first last) (keepIf (ltb 0 (getD members last 0)) (spanRecord last ∷ []))
+
+  -- no span ends before its first tick
+  pub line-none : concatBelow first lineCell ≡ []
+  line-none = concat-nil first lineCell (λ last h. keep-nil (leb first last) _ (λ e. let l : first ≤ last = leb-true _ _ e in omega arith))
+
+  -- a turn of the loop over the last ticks: the record of the span that ends with the tick, if it has members
+  pub line-more : {a b header : ℕ} (last : ℕ) → first ≤ last → {i j k : ℕ} {x y z : List ℕ} → AppendsCores a b header (concatBelow last lineCell) i j x y
+      → AppendsCores a b header (keepIf (ltb 0 (getD members last 0)) (spanRecord last ∷ [])) j k y z → AppendsCores a b header (concatBelow (last + 1) lineCell) i k x z
+  line-more {a} {b} {header} last h {i} {j} {k} {x} {y} {z} e f =
+      appends-more lineCell last e (subst (λ (cs : List SpanCore). AppendsCores a b header cs j k y z) (sym (keep-all (leb first last) _ (le-leb _ _ h))) f)
+
+  -- there is at most one record for each last tick
+  pub cells-le : (m : ℕ) → length (concatBelow m lineCell) ≤ m
+  cells-le m = omega (arith, concat-le lineCell 1 m (λ i l. cell-le i))
+    where
+      cell-le : (last : ℕ) → length (lineCell last) ≤ 1
+      cell-le last = omega (arith, keep-le (leb first last) (keepIf (ltb 0 (getD members last 0)) (spanRecord last ∷ [])), keep-le (ltb 0 (getD members last 0)) (spanRecord last ∷ []))
+
+  pub line-le : (T : ℕ) → length (lineList orders members first T) ≤ T
+  unfolding lineList
+  line-le T = cells-le T

@@ -1,0 +1,109 @@
+-- Laws of the report as it is encoded: the lines appended so far, and the whole.
+use mathlib.Core.Path.{_≡_, refl, sym, ap, ap₂, _∙_}
+use mathlib.Core.List.{List, [], _∷_, _++_, append-assoc}
+use Prim.Native.Nat.{ℕ, suc, _+_, _*_, _≤_, _<_}
+use native.Mathlib.Omega.{arith}
+use lib.ListN.{length, take, replicate}
+use Rattle.sets.specs.Members.{capacity}
+use Rattle.sets.specs.Tables.{concatBelow}
+use Rattle.records.specs.declared.record.Record.the-variants.{End}
+use Rattle.records.specs.Limits.{maxTicks}
+use Rattle.records.specs.Records.{encode}
+use Rattle.records.proofs.Records.{length-encode}
+use Rattle.records.proofs.WithinLimits.{limits-of}
+use Rattle.log.specs.Days.{LentDay}
+use Rattle.log.specs.Buffers.{place}
+use Rattle.log.proofs.Delivering.{take-place}
+use Rattle.groups.specs.Reports.{groupsFrom, groupsOf}
+use Rattle.groups.specs.Encoding.{encodeCores, reportBytes}
+use Rattle.groups.specs.Lines.{LineSizes, LineRows, LineCores, OrdersBefore}
+use Rattle.groups.specs.Appending.{AppendsCores, lineList, LineRoom, EncodesReport}
+use Rattle.groups.proofs.Appended.{appends-none, appends-more, line-le}
+use Rattle.groups.proofs.LineLaws.{line-groups, orders-none, orders-more, line-list}
+
+-- Before the turn of a first tick: the groups of the spans that start before it are appended, and the orders are those of the spans that start
+-- one tick before it. There are at most 96 groups a tick.
+pub record ReportSoFar (n T : ℕ) (ws : List ℕ) (first count : ℕ) (buffer₀ buffer table orders members : List ℕ) : Type 0 where
+  pub lent : LentDay n T ws
+  pub high : first ≤ T
+  pub room : 10 + 13 * (maxTicks * maxTicks) ≤ length buffer
+  pub table-size : length table ≡ maxTicks * capacity
+  pub members-size : length members ≡ maxTicks
+  pub before : OrdersBefore n T ws first orders
+  pub few : count ≤ maxTicks * first
+  pub appended : AppendsCores 71 82 4 (concatBelow first (groupsFrom n T ws)) 0 count buffer₀ buffer
+
+short : {n T : ℕ} {ws : List ℕ} → LentDay n T ws → T ≤ maxTicks
+short d = limits-of (d .limits) .short
+
+pub so-far-none : (n T : ℕ) (ws buffer : List ℕ) → LentDay n T ws → 10 + 13 * (maxTicks * maxTicks) ≤ length buffer
+    → ReportSoFar n T ws 0 0 buffer buffer (replicate 6144 0) (replicate 97 0) (replicate 96 0)
+unfolding concatBelow
+so-far-none n T ws buffer d r = record {
+  lent = d;
+  high = omega arith;
+  room = r;
+  table-size = refl;
+  members-size = refl;
+  before = orders-none n T ws (short d);
+  few = omega arith;
+  appended = appends-none;
+}
+
+module _ {n T : ℕ} {ws : List ℕ} {first count : ℕ} {buffer₀ buffer table orders members : List ℕ} (s : ReportSoFar n T ws first count buffer₀ buffer table orders members) where
+  pub so-far-sizes : {table′ : List ℕ} → LineRows n T ws first table′ → LineSizes n T table′ orders members
+  so-far-sizes t = record { few = limits-of (s .lent .limits) .few; short = short (s .lent); table-size = t .size; orders-size = s .before .size; members-size = s .members-size }
+
+  pub so-far-count : count ≤ maxTicks * maxTicks
+  so-far-count = omega (arith, s .few, s .high, short (s .lent))
+
+  module _ (l : first < T) {table′ orders′ members′ : List ℕ} (t : LineRows n T ws first table′) (c : LineCores n T first table′ orders orders′ members′) where
+    pub so-far-room : LineRoom T first count orders′ members′ buffer
+    so-far-room =
+        let h = short (s .lent) in
+        record {
+          short = h;
+          orders-size = omega (arith, c .orders-size, s .before .size);
+          members-size = omega (arith, c .members-size);
+          inside = l;
+          room = omega (arith, s .room, s .few);
+        }
+
+    pub so-far-next : {count′ : ℕ} {buffer′ : List ℕ} → AppendsCores 71 82 4 (lineList orders′ members′ first T) count count′ buffer buffer′
+        → ReportSoFar n T ws (first + 1) count′ buffer₀ buffer′ table′ orders′ members′
+    so-far-next {count′} {buffer′} a =
+        let g = line-groups (limits-of (s .lent .limits) .few) t (s .before) c in
+        let b : AppendsCores 71 82 4 (groupsFrom n T ws first) count count′ buffer buffer′ = rw (line-list g) at a in
+        let e : first + 1 ≡ suc first = omega arith in
+        record {
+          lent = s .lent;
+          high = omega arith;
+          room = omega (arith, s .room, a .size);
+          table-size = t .size;
+          members-size = c .members-size;
+          before = rw e (orders-more g);
+          few = omega (arith, s .few, a .number, line-le orders′ members′ first T, short (s .lent));
+          appended = appends-more (groupsFrom n T ws) first (s .appended) b;
+        }
+
+-- the header and the end make it a report
+pub so-far-end : {n T : ℕ} {ws : List ℕ} {first count : ℕ} {buffer₀ buffer table orders members : List ℕ} (given left : List ℕ)
+    → ReportSoFar n T ws first count buffer₀ buffer table orders members → T ≤ first → 4 ≤ length given → buffer₀ ≡ place 0 (82 ∷ 72 ∷ n ∷ T ∷ []) given
+    → left ≡ place (4 + 13 * count) (encode (End count)) buffer → EncodesReport n T ws count left
+unfolding groupsOf reportBytes
+so-far-end {n} {T} {ws} {first} {count} {buffer₀} {buffer} given left s h l e f =
+    let q : first ≡ T = omega (arith, s .high) in
+    let a : AppendsCores 71 82 4 (concatBelow T (groupsFrom n T ws)) 0 count buffer₀ buffer = rw q at (s .appended) in
+    let c : count ≡ length (concatBelow T (groupsFrom n T ws)) = omega (arith, a .number) in
+    let m : 4 + 13 * count + length (encode (End count)) ≡ 10 + 13 * count = omega (arith, length-encode (End count)) in
+    let k : 10 + 13 * count ≤ length buffer = omega (arith, s .room, so-far-count s) in
+    let head : take 4 buffer₀ ≡ 82 ∷ 72 ∷ n ∷ T ∷ [] = rw e (take-place 0 (82 ∷ 72 ∷ n ∷ T ∷ []) given l) in
+    record {
+      number = c;
+      few = so-far-count s;
+      bytes =
+          ap₂ (λ (x : ℕ) (y : List ℕ). take x y) (sym m) f
+          ∙ take-place (4 + 13 * count) (encode (End count)) buffer (omega arith)
+          ∙ ap₂ _++_ (a .bytes ∙ ap (λ (x : List ℕ). x ++ encodeCores 71 82 (concatBelow T (groupsFrom n T ws))) head) (ap (λ (x : ℕ). encode (End x)) c)
+          ∙ append-assoc (82 ∷ 72 ∷ n ∷ T ∷ []) (encodeCores 71 82 (concatBelow T (groupsFrom n T ws))) (encode (End (length (concatBelow T (groupsFrom n T ws)))));
+    }

@@ -1,0 +1,118 @@
+// The call that reports the groups of a day.
+ghost use mathlib.Core.Path.{_≡_};
+ghost use mathlib.Core.List.{_∷_, []};
+ghost use Prim.Native.Nat.{_+_, _*_, _≤_, _<_};
+ghost use lib.Dec.{ltb};
+ghost use lib.ListN.{length};
+ghost use Rattle.sets.specs.Tables.{keepIf};
+ghost use Rattle.records.specs.Limits.{maxTicks};
+ghost use Rattle.records.specs.Outcomes.{success};
+ghost use Rattle.log.specs.Days.{LentDay};
+ghost use Rattle.log.specs.Buffers.{deliver};
+ghost use Rattle.groups.specs.Refusals.{writtenOutcome};
+ghost use Rattle.groups.specs.Appending.{AppendsCores, lineList, LineRoom, EncodesReport};
+ghost use Rattle.groups.specs.Reports.{groupsOf};
+ghost use Rattle.groups.specs.Encoding.{reportBytes};
+ghost use Rattle.groups.specs.Calls.{reportOf};
+ghost use Rattle.groups.specs.GroupReports.{Reported};
+use crate::answer::Written;
+use crate::answer::delivered;
+use crate::encoding::append_core;
+use crate::lines::fill_line;
+use crate::lines::find_line;
+use crate::refusal::Refusal;
+use log::Checked;
+use log::Record;
+use log::check_words;
+use log::put;
+use log::put_record;
+
+// Appends a group's record if it has members.
+fn append_group(
+    buffer: &mut [u8],
+    count: usize,
+    order: u8,
+    first: usize,
+    last: usize,
+    members: u64,
+) -> usize
+    requires { ⌜ (4 + 13 * count + 13 ≤ length (now buffer)) × (first < maxTicks) × (last < maxTicks) ⌝ }
+    ensures { λ r. ⌜ AppendsCores 71 82 4 (keepIf (ltb 0 members) (record { order = order; first = first; last = last; members = members } ∷ [])) count r (now (buffer .entry)) (now (buffer .exit)) ⌝ }
+{
+    if members == 0 {
+        return count;
+    }
+    append_core(buffer, 4, count, b'G', b'R', order, first, last, members)
+}
+
+// Appends the groups of the spans that start with a tick, by last tick.
+fn append_line(
+    buffer: &mut [u8],
+    count: usize,
+    orders: &[u8],
+    members: &[u64],
+    first: usize,
+    ticks: usize,
+) -> usize
+    requires { ⌜ LineRoom ticks first count (now orders) (now members) (now buffer) ⌝ }
+    ensures { λ r. ⌜ AppendsCores 71 82 4 (lineList (now (orders .entry)) (now (members .entry)) first ticks) count r (now (buffer .entry)) (now (buffer .exit)) ⌝ }
+{
+    let mut so_far = count;
+    for last in first..ticks {
+        let appended = append_group(buffer, so_far, orders[last], first, last, members[last]);
+        so_far = appended;
+    }
+    so_far
+}
+
+// Encodes the report of a day in a buffer that holds any report, and answers how many groups it has.
+fn encode_report(words: &[u64], n: usize, ticks: usize, buffer: &mut [u8]) -> usize
+    requires { ⌜ LentDay n ticks (now words) × (10 + 13 * (maxTicks * maxTicks) ≤ length (now buffer)) ⌝ }
+    ensures { λ r. ⌜ EncodesReport n ticks (now (words .entry)) r (now (buffer .exit)) ⌝ }
+{
+    let header = [b'R', b'H', n as u8, ticks as u8];
+    put(buffer, 0, &header);
+    let mut table = [0u64; 6144];
+    let mut orders = [0u8; 97];
+    let mut members = [0u64; 96];
+    let mut count: usize = 0;
+    for first in 0..ticks {
+        fill_line(words, n, ticks, first, &mut table);
+        find_line(&table, n, ticks, first, &mut orders, &mut members);
+        let appended = append_line(buffer, count, &orders, &members, first, ticks);
+        count = appended;
+    }
+    put_record(
+        buffer,
+        4 + 13 * count,
+        Record::End {
+            count: count as u32,
+        },
+    );
+    count
+}
+
+// Puts the report of a day whose words have passed into the buffer that is lent.
+fn deliver_report(words: &[u64], badges: usize, ticks: usize, buffer: &mut [u8]) -> Written
+    requires { ⌜ LentDay badges ticks (now words) ⌝ }
+    ensures answer { λ r. ⌜ writtenOutcome r ≡ deliver (success (reportBytes badges ticks (groupsOf badges ticks (now (words .entry))))) (now (buffer .entry)) .answer ⌝ }
+    ensures leaves { λ _. ⌜ now (buffer .exit) ≡ deliver (success (reportBytes badges ticks (groupsOf badges ticks (now (words .entry))))) (now (buffer .entry)) .buffer ⌝ }
+{
+    let mut bytes = [0u8; 119818];
+    let count = encode_report(words, badges, ticks, &mut bytes);
+    delivered(log::deliver(&bytes[..10 + 13 * count], buffer))
+}
+
+// Puts the report of a day's groups into the buffer that is lent, and answers the number of bytes. Refused by 10, 8, 11 and 9, in that order;
+// a refused call changes no byte, and bytes after the answer are never touched. The report is made once, in memory of its own, and
+// measured.
+pub fn report(words: &[u64], badges: usize, ticks: usize, buffer: &mut [u8]) -> Written
+    ensures answer { λ r. ⌜ writtenOutcome r ≡ reportOf badges ticks (now (words .entry)) (now (buffer .entry)) .answer ⌝ }
+    ensures leaves { λ _. ⌜ now (buffer .exit) ≡ reportOf badges ticks (now (words .entry)) (now (buffer .entry)) .buffer ⌝ }
+    ensures groups { λ r. ⌜ Reported badges ticks (now (words .entry)) (writtenOutcome r) (now (buffer .exit)) ⌝ }
+{
+    match check_words(words, badges, ticks) {
+        Checked::Refused(refusal) => Written::Refused(Refusal::Log(refusal)),
+        Checked::Day => deliver_report(words, badges, ticks, buffer),
+    }
+}
