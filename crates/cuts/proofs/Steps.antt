@@ -1,0 +1,199 @@
+-- Laws of the program's loops: trying the ends of a run, filling the table of greatest sums row by row, and walking over the ends found.
+use mathlib.Core.Path.{_≡_, refl, sym, ap, ap₂, _∙_}
+use mathlib.Core.List.{List, [], _∷_, _++_}
+use mathlib.Core.Logic.{_⊎_, inl, inr}
+use Prim.Native.Nat.{ℕ, zero, suc, _+_, _-_, _*_, _≤_, _<_}
+use native.Mathlib.Nat.{eq-or-lt-of-le}
+use native.Mathlib.Numerals.{add-one}
+use native.Mathlib.Omega.{arith}
+use lib.ListN.{length, getD, set, replicate, length-set, length-append}
+use lib.Seq.{getD-set-same, getD-set-other, set-at, append-snoc}
+use borrow.Author.Tests.{lt-ltb, le-ltb}
+use Rattle.cuts.specs.Sums.{firstGreatest, sumWith, laterEnds, bestSum, endAfter, endsFrom, bestEnds, tableScore}
+use Rattle.cuts.specs.Steps.{rowSum, runSum, IsRunSum, Entry, Filled}
+use Rattle.cuts.proofs.Sums.{greatest-take, greatest-keep, greatest-same, is-greatest, best-sum-suc, end-greatest}
+
+-- ---- trying the ends of a run
+
+-- a score and an entry of the table, added, are the sum of a run and those after it
+pub run-sum-in : (scores sums : List ℕ) (c t e r : ℕ) → (r ≡ getD scores (t * 96 + e) 0 + getD sums (c * 96 + (e + 1)) 0) × (r ≤ 255 + getD sums (c * 96 + (e + 1)) 0)
+    → IsRunSum scores sums c t e r
+unfolding rowSum sumWith tableScore
+run-sum-in scores sums c t e r p = let q = rw add-one at p in record { sum = q .0; small = q .1 }
+
+-- of the ends t to e - 1, `end` is the first at which g is greatest, and there it is `greatest`
+pub record Tried (g : ℕ → ℕ) (t e end greatest : ℕ) : Type 0 where
+  pub some : t < e
+  pub first : end ≡ firstGreatest g t (e - suc t)
+  pub value : greatest ≡ g end
+
+-- after end t, after one end more, and after the last
+pub tried-one : {g : ℕ → ℕ} {t x : ℕ} → x ≡ g t → Tried g t (t + 1) t x
+unfolding firstGreatest
+tried-one {g} {t} v = let z : t + 1 - suc t ≡ 0 = omega arith in record { some = omega arith; first = rw z; value = v }
+
+module _ {g : ℕ → ℕ} {t e end greatest x : ℕ} (s : Tried g t e end greatest) (v : x ≡ g e) where
+  -- end e is the next one
+  one-more : e + 1 - suc t ≡ suc (e - suc t)
+  one-more = omega (arith, s .some)
+
+  at-e : t + suc (e - suc t) ≡ e
+  at-e = omega (arith, s .some)
+
+  pub tried-take : greatest < x → Tried g t (e + 1) e x
+  tried-take l =
+      let y : g (firstGreatest g t (e - suc t)) < g (t + suc (e - suc t)) = omega (arith, s .value, ap g (s .first), ap g at-e) in
+      record { some = omega (arith, s .some); first = rw (one-more, greatest-take g t (e - suc t) (lt-ltb _ _ y)) (sym at-e); value = v }
+
+  pub tried-keep : x ≤ greatest → Tried g t (e + 1) end greatest
+  tried-keep l =
+      let y : g (t + suc (e - suc t)) ≤ g (firstGreatest g t (e - suc t)) = omega (arith, s .value, ap g (s .first), ap g at-e) in
+      record { some = omega (arith, s .some); first = rw (one-more, greatest-keep g t (e - suc t) (le-ltb _ _ y)) (s .first); value = s .value }
+
+pub tried-all : {g : ℕ → ℕ} {t e end greatest : ℕ} (stop : ℕ) → Tried g t e end greatest → e ≡ stop → end ≡ firstGreatest g t (stop - suc t)
+tried-all stop s q = rw q at (s .first)
+
+-- the end found is one of those tried
+pub end-in : (g : ℕ → ℕ) (t stop end : ℕ) → t < stop → end ≡ firstGreatest g t (stop - suc t) → (t ≤ end) × (end < stop)
+end-in g t stop end l q = let p = is-greatest g t (stop - suc t) in (omega (arith, p .low), omega (arith, p .high))
+
+-- and leaves c + 1 ticks or more, where it was to leave them
+end-fits : (g : ℕ → ℕ) (T c t end : ℕ) → t + suc c < T → end ≡ firstGreatest g t (T - c - 1 - suc t) → suc end + c < T
+end-fits g T c t end h q = let i = end-in g t (T - c - 1) end (omega arith) q .1 in omega arith
+
+-- ---- an end and its sum, from the table
+
+module _ {scores sums : List ℕ} {T k : ℕ} (c t : ℕ) (b : Filled scores T k sums) (l : c < k) (h : t + suc c < T) where
+  -- at every end that can be tried, the sum from the table is the sum of the definition
+  table-sum : (e : ℕ) → t ≤ e → e ≤ t + laterEnds T c t → runSum scores sums c t e ≡ sumWith (tableScore scores) (bestSum (tableScore scores) T c) t e
+  unfolding sumWith
+  table-sum e m n = ap (λ (x : ℕ). tableScore scores t e + x) (b .at c (suc e) l (omega arith) .best)
+
+  -- the end found from the table is the end of the definition
+  table-end : (end : ℕ) → end ≡ firstGreatest (runSum scores sums c t) t (T - c - 1 - suc t) → end ≡ endAfter (tableScore scores) T c t
+  unfolding endAfter
+  table-end end q = let i : T - c - 1 - suc t ≡ laterEnds T c t = omega arith in q ∙ rw i (greatest-same _ _ t (laterEnds T c t) table-sum)
+
+  -- the sum at that end is the greatest one, with a cut more
+  table-greatest : runSum scores sums c t (endAfter (tableScore scores) T c t) ≡ bestSum (tableScore scores) T (suc c) t
+  table-greatest =
+      let p = end-greatest (tableScore scores) T c t in
+      table-sum (endAfter (tableScore scores) T c t) (p .low) (p .high) ∙ sym (best-sum-suc (tableScore scores) T c t)
+
+  -- so what the program stores for it is the greatest sum, and at most 255 for each run
+  module _ (end : ℕ) {x : ℕ} (q : end ≡ firstGreatest (runSum scores sums c t) t (T - c - 1 - suc t)) (s : IsRunSum scores sums c t end x) where
+    table-best : x ≡ bestSum (tableScore scores) T (c + 1) t
+    table-best = s .sum ∙ ap (runSum scores sums c t) (table-end end q) ∙ rw add-one table-greatest
+
+    pub table-small : x ≤ 255 * suc (c + 1)
+    table-small = omega (arith, s .small, b .at c (suc end) l (end-fits _ T c t end h q) .small)
+
+-- ---- filling the table
+
+-- the rows below k are filled, and row k below column t
+pub record PartlyFilled (scores : List ℕ) (T k t : ℕ) (sums : List ℕ) : Type 0 where
+  pub rows : Filled scores T k sums
+  pub row : (s : ℕ) → s < t → s + k < T → Entry scores T sums k s
+
+-- with no row, with no column of the next row, with one column more, and with the whole row
+pub filled-none : {scores : List ℕ} {T : ℕ} {sums : List ℕ} → length sums ≡ 9216 → Filled scores T 0 sums
+filled-none e = record { size = e; at = λ c t l r. absurd (omega arith) }
+
+pub partly-none : {scores : List ℕ} {T k : ℕ} {sums : List ℕ} → Filled scores T k sums → PartlyFilled scores T k 0 sums
+partly-none b = record { rows = b; row = λ s l r. absurd (omega arith) }
+
+module _ {scores : List ℕ} {T k t : ℕ} {sums : List ℕ} (b : PartlyFilled scores T k t sums) where
+  pub partly-more : (i x : ℕ) → t + k < T → T ≤ 96 → i ≡ k * 96 + t → x ≡ bestSum (tableScore scores) T k t → x ≤ 255 * suc k
+      → PartlyFilled scores T k (t + 1) (set sums i x)
+  unfolding rowSum
+  partly-more i x h w q v m = record {
+    rows = record {
+      size = length-set sums i x ∙ b .rows .size;
+      at = λ c s l r. other c s (λ z. omega arith) (b .rows .at c s l r);
+    };
+    row = λ s l r. go s r (eq-or-lt-of-le (let y : suc s ≤ suc t = omega arith in y));
+  }
+    where
+      other : (c s : ℕ) → (c * 96 + s ≡ i → ⊥) → Entry scores T sums c s → Entry scores T (set sums i x) c s
+      other c s f n = let e = getD-set-other sums i (c * 96 + s) x 0 f in record { best = e ∙ n .best; small = omega (arith, e, n .small) }
+
+      here : getD (set sums i x) (k * 96 + t) 0 ≡ x
+      here = rw q (getD-set-same sums (k * 96 + t) x 0 (omega (arith, b .rows .size)))
+
+      go : (s : ℕ) → s + k < T → (suc s ≡ suc t) ⊎ (suc s < suc t) → Entry scores T (set sums i x) k s
+      go s r (inl z) = let y : s ≡ t = omega arith in rw y (record { best = here ∙ v; small = omega (arith, here) })
+      go s r (inr z) = other k s (λ y. omega arith) (b .row s (omega arith) r)
+
+  pub partly-all : {j : ℕ} → T ≤ t + k → j ≡ k + 1 → Filled scores T j sums
+  partly-all h q = record { size = b .rows .size; at = λ c s l r. go c s r (eq-or-lt-of-le (let y : suc c ≤ suc k = omega arith in y)) }
+    where
+      go : (c s : ℕ) → s + c < T → (suc c ≡ suc k) ⊎ (suc c < suc k) → Entry scores T sums c s
+      go c s r (inl z) = let y : c ≡ k = omega arith in rw y (b .row s (omega arith) (omega arith))
+      go c s r (inr z) = b .rows .at c s (omega arith) r
+
+-- one column more of row c + 1, from row c
+pub row-more : {scores : List ℕ} {T c t : ℕ} {sums : List ℕ} (end x : ℕ) → PartlyFilled scores T (c + 1) t sums → t + suc c < T → T ≤ 96
+    → end ≡ firstGreatest (runSum scores sums c t) t (T - c - 1 - suc t) → IsRunSum scores sums c t end x
+    → PartlyFilled scores T (c + 1) (t + 1) (set sums ((c + 1) * 96 + t) x)
+row-more {scores} {T} {c} {t} end x b h w q s =
+    partly-more b _ x (omega arith) w refl (table-best c t (b .rows) (omega arith) h end q s) (table-small c t (b .rows) (omega arith) h end q s)
+
+-- fewer rows
+pub filled-fewer : {scores : List ℕ} {T k j : ℕ} {sums : List ℕ} → Filled scores T k sums → j ≤ k → Filled scores T j sums
+filled-fewer b h = record { size = b .size; at = λ c t l r. b .at c t (omega arith) r }
+
+-- row 0 has the scores of the runs up to the last tick
+pub no-cut : (scores : List ℕ) (T t x : ℕ) → x ≡ getD scores (t * 96 + (T - 1)) 0 → x ≡ bestSum (tableScore scores) T 0 t
+unfolding bestSum tableScore
+no-cut scores T t x e = e
+
+-- ---- walking over the ends
+
+-- the first i of h ends are found and held, and those from t on are the others
+pub record Walked (scores : List ℕ) (T h i t : ℕ) (ends : List ℕ) : Type 0 where
+  pub found : List ℕ
+  pub count : length found ≡ i
+  pub fits : t + (h - suc i) < T
+  pub held : ends ≡ found ++ replicate (96 - i) 0
+  pub rest : found ++ endsFrom (tableScore scores) T (h - suc i) t ≡ bestEnds (tableScore scores) T h
+
+-- one end more, put into the first place that has none
+put-next : (found ends : List ℕ) (i e : ℕ) → length found ≡ i → ends ≡ found ++ replicate (96 - i) 0 → i < 96 → set ends i e ≡ (found ++ e ∷ []) ++ replicate (96 - suc i) 0
+put-next found ends i e n q l =
+    let g : 96 - i ≡ suc (96 - suc i) = omega arith in
+    rw (q, g) (set-at found 0 (replicate (96 - suc i) 0) e i n ∙ sym (append-snoc found e (replicate (96 - suc i) 0)))
+
+-- with no end, with one end more, and with the last one
+pub walked-none : (scores : List ℕ) (T h : ℕ) → 1 ≤ h → h ≤ T → Walked scores T h 0 0 (replicate 96 0)
+unfolding bestEnds
+walked-none scores T zero l w = absurd (omega arith)
+walked-none scores T (suc c) l w =
+    let e : suc c - 1 ≡ c = omega arith in
+    record { found = []; count = refl; fits = omega arith; held = refl; rest = rw e }
+
+module _ {scores : List ℕ} {T h i t : ℕ} {ends : List ℕ} (w : Walked scores T h i t ends) (l : h ≤ 96) where
+  pub walked-more : (c e : ℕ) {sums : List ℕ} → Filled scores T (h - 1) sums → i < h - 1 → c ≡ h - i - 2
+      → e ≡ firstGreatest (runSum scores sums c t) t (T - c - 1 - suc t) → Walked scores T h (i + 1) (e + 1) (set ends i e)
+  unfolding endsFrom
+  walked-more c e {sums} b m d q =
+      let k : h - suc i ≡ suc c = omega arith in
+      let j : h - suc (i + 1) ≡ c = omega arith in
+      let o : i + 1 ≡ suc i = omega arith in
+      let f : t + suc c < T = omega (arith, w .fits) in
+      let z : e ≡ endAfter (tableScore scores) T c t = table-end c t b (omega arith) f e q in
+      let r : w .found ++ e ∷ endsFrom (tableScore scores) T c (suc e) ≡ bestEnds (tableScore scores) T h = rw z (rw k at (w .rest)) in
+      record {
+        found = w .found ++ e ∷ [];
+        count = length-append (w .found) (e ∷ []) ∙ omega (arith, w .count);
+        fits = rw (j, add-one) (end-fits _ T c t e f q);
+        held = rw o (put-next (w .found) ends i e (w .count) (w .held) (omega arith));
+        rest = rw (j, add-one) (append-snoc (w .found) e (endsFrom (tableScore scores) T c (suc e)) ∙ r);
+      }
+
+  pub walked-all : 1 ≤ h → h - 1 ≡ i → set ends (h - 1) (T - 1) ≡ bestEnds (tableScore scores) T h ++ replicate (96 - h) 0
+  unfolding endsFrom
+  walked-all o m =
+      let k : h - suc i ≡ 0 = omega arith in
+      let n : suc i ≡ h = omega arith in
+      rw m (put-next (w .found) ends i (T - 1) (w .count) (w .held) (omega arith)
+      ∙ ap₂ (λ (x : List ℕ) (y : ℕ). x ++ replicate (96 - y) 0) (rw k at (w .rest)) n)

@@ -1,0 +1,24 @@
+-- The ticks 0 to T - 1 cut into runs, and the cuttings of greatest sum. The score of a run is any function of its first and last tick.
+-- (Standard terms: a cutting is a segmentation, a run a segment.)
+use mathlib.Core.Path.{_≡_}
+use mathlib.Core.List.{List, [], _∷_}
+use Prim.Native.Nat.{ℕ, suc, _+_, _≤_, _<_}
+use lib.ListN.{length, getD}
+
+-- The ticks 0 to T - 1 cut into h runs, each of at least one tick, by the list of the runs' last ticks: each run ends after the one
+-- before it, and the last with tick T - 1.
+pub record Cutting (T h : ℕ) (ends : List ℕ) : Type 0 where
+  pub some : 1 ≤ h
+  pub count : length ends ≡ h
+  pub rising : (i : ℕ) → suc i < h → getD ends i 0 < getD ends (suc i) 0
+  pub last : (i : ℕ) → suc i ≡ h → suc (getD ends i 0) ≡ T
+
+-- the sum of scores over the runs of which the first starts at t, and which end at the ticks of the list
+unfoldable pub total : (ℕ → ℕ → ℕ) → ℕ → List ℕ → ℕ
+total score t [] = 0
+total score t (e ∷ es) = score t e + total score (suc e) es
+
+-- a cutting into h runs whose sum no other exceeds
+pub record IsBest (score : ℕ → ℕ → ℕ) (T h : ℕ) (ends : List ℕ) : Type 0 where
+  pub cutting : Cutting T h ends
+  pub greatest : (es : List ℕ) → Cutting T h es → total score 0 es ≤ total score 0 ends

@@ -1,0 +1,29 @@
+-- What the private functions' contracts cite: the table of greatest sums, with 96 columns, row c for c cuts and column t for first tick t.
+use mathlib.Core.Path.{_≡_}
+use mathlib.Core.List.{List}
+use Prim.Native.Nat.{ℕ, suc, _+_, _*_, _≤_, _<_}
+use lib.ListN.{length, getD}
+use Rattle.cuts.specs.Sums.{sumWith, bestSum, tableScore}
+
+-- row c of the table
+unfoldable pub rowSum : List ℕ → ℕ → ℕ → ℕ
+rowSum sums c t = getD sums (c * 96 + t) 0
+
+-- the sum where a run from t to e is followed by runs of the sum that row c has
+abbrev pub runSum : List ℕ → List ℕ → ℕ → ℕ → ℕ → ℕ
+runSum scores sums c t e = sumWith (tableScore scores) (rowSum sums c) t e
+
+-- s is that sum, and a score in it is at most 255
+pub record IsRunSum (scores sums : List ℕ) (c t e s : ℕ) : Type 0 where
+  pub sum : s ≡ runSum scores sums c t e
+  pub small : s ≤ 255 + rowSum sums c (suc e)
+
+-- the table has the greatest sum for c cuts from t on, which is at most 255 for each of the c + 1 runs
+pub record Entry (scores : List ℕ) (T : ℕ) (sums : List ℕ) (c t : ℕ) : Type 0 where
+  pub best : rowSum sums c t ≡ bestSum (tableScore scores) T c t
+  pub small : rowSum sums c t ≤ 255 * suc c
+
+-- the rows below k have them, from every tick t at which c + 1 runs fit
+pub record Filled (scores : List ℕ) (T k : ℕ) (sums : List ℕ) : Type 0 where
+  pub size : length sums ≡ 9216
+  pub at : (c t : ℕ) → c < k → t + c < T → Entry scores T sums c t

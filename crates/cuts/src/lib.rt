@@ -1,0 +1,108 @@
+// Cutting the ticks of a day into runs, with the greatest sum of scores.
+//
+// `best_ends` fills a table of greatest sums, 96 columns wide: row c for c cuts, column t for first tick t. Then it walks from tick 0,
+// and ends each run at the first tick that attains the greatest sum. Scores are in such a table, too: row first tick, column last tick.
+ghost use mathlib.Core.Path.{_≡_};
+ghost use mathlib.Core.List.{_++_};
+ghost use Prim.Native.Nat.{suc, _+_, _-_, _<_, _≤_};
+ghost use lib.ListN.{length, replicate};
+ghost use Rattle.cuts.specs.Sums.{firstGreatest, bestEnds, tableScore, endsOf};
+ghost use Rattle.cuts.specs.Steps.{runSum, IsRunSum, Filled};
+
+// A score as a sum of one score.
+fn single(score: u8) -> u16
+    ensures { λ r. ⌜ (r ≡ score) × (r ≤ 255) ⌝ }
+{
+    score as u16
+}
+
+// A score and a sum, added.
+fn added(score: u8, sum: u16) -> usize
+    ensures { λ r. ⌜ (r ≡ score + sum) × (r ≤ 255 + sum) ⌝ }
+{
+    score as usize + sum as usize
+}
+
+// The score of the run from tick t to tick e, added to what row c has for the runs after it.
+fn run_sum(scores: &[u8; 9216], sums: &[u16; 9216], c: usize, t: usize, e: usize) -> usize
+    requires { ⌜ (c < 96) × (t < 96) × (e < 95) ⌝ }
+    ensures { λ r. ⌜ IsRunSum (now (scores .entry)) (now (sums .entry)) c t e r ⌝ }
+{
+    added(scores[t * 96 + e], sums[c * 96 + (e + 1)])
+}
+
+// The first of the ticks from t to stop - 1 at which a run from t has the greatest sum.
+fn best_end(scores: &[u8; 9216], sums: &[u16; 9216], c: usize, t: usize, stop: usize) -> usize
+    requires { ⌜ (c < 96) × (t < stop) × (stop < 96) ⌝ }
+    ensures { λ r. ⌜ r ≡ firstGreatest (runSum (now (scores .entry)) (now (sums .entry)) c t) t (stop - suc t) ⌝ }
+{
+    let mut end = t;
+    let mut greatest = run_sum(scores, sums, c, t, t);
+    for e in t + 1..stop {
+        let sum = run_sum(scores, sums, c, t, e);
+        if greatest < sum {
+            end = e;
+            greatest = sum;
+        }
+    }
+    end
+}
+
+// Row 0: no cut, so that one run goes from t to the last tick.
+fn fill_first(scores: &[u8; 9216], sums: &mut [u16; 9216], ticks: usize)
+    requires { ⌜ (1 ≤ ticks) × (ticks ≤ 96) × (length (now sums) ≡ 9216) ⌝ }
+    ensures { λ _. ⌜ Filled (now (scores .entry)) ticks 1 (now (sums .exit)) ⌝ }
+{
+    let last = ticks - 1;
+    for t in 0..ticks {
+        sums[t] = single(scores[t * 96 + last]);
+    }
+}
+
+// Row c + 1 from row c: for each first tick t the greatest sum over the ends that leave c + 1 ticks or more.
+fn fill_row(scores: &[u8; 9216], sums: &mut [u16; 9216], c: usize, ticks: usize)
+    requires { ⌜ (c + 1 < ticks) × (ticks ≤ 96) × Filled (now scores) ticks (c + 1) (now sums) ⌝ }
+    ensures { λ _. ⌜ Filled (now (scores .entry)) ticks (c + 2) (now (sums .exit)) ⌝ }
+{
+    let stop = ticks - c - 1;
+    for t in 0..stop {
+        let end = best_end(scores, sums, c, t, stop);
+        let sum = run_sum(scores, sums, c, t, end);
+        sums[(c + 1) * 96 + t] = sum as u16;
+    }
+}
+
+// The ends of a best cutting, from the rows for fewer cuts, with zeros after them.
+fn walk_ends(scores: &[u8; 9216], sums: &[u16; 9216], ticks: usize, parts: usize) -> [u8; 96]
+    requires { ⌜ (1 ≤ parts) × (parts ≤ ticks) × (ticks ≤ 96) × Filled (now scores) ticks (parts - 1) (now sums) ⌝ }
+    ensures { λ r. ⌜ r ≡ bestEnds (tableScore (now (scores .entry))) ticks parts ++ replicate (96 - parts) 0 ⌝ }
+{
+    let mut ends = [0u8; 96];
+    let mut t = 0;
+    for i in 0..parts - 1 {
+        let c = parts - i - 2;
+        let end = best_end(scores, sums, c, t, ticks - c - 1);
+        ends[i] = end as u8;
+        t = end + 1;
+    }
+    ends[parts - 1] = (ticks - 1) as u8;
+    ends
+}
+
+// The last ticks of the runs of a best cutting of the ticks 0 to ticks - 1 into parts runs, with zeros after them. Zeros alone where there
+// is no such cutting or ticks is above 96.
+pub fn best_ends(scores: &[u8; 9216], ticks: usize, parts: usize) -> [u8; 96]
+    ensures { λ r. ⌜ r ≡ endsOf (now (scores .entry)) ticks parts ⌝ }
+{
+    if parts < 1 || ticks < parts || 96 < ticks {
+        return [0; 96];
+    }
+    let mut sums = [0u16; 9216];
+    fill_first(scores, &mut sums, ticks);
+    let mut c = 0;
+    while c + 2 < parts {
+        fill_row(scores, &mut sums, c, ticks);
+        c += 1;
+    }
+    walk_ends(scores, &sums, ticks, parts)
+}
