@@ -32,7 +32,7 @@ decode-cores a b (c ∷ cs) rest h =
     )
 
 -- the last four bytes are those of the end's count
-last-four : (xs : List ℕ) (count : ℕ) → drop (length (xs ++ encode (End count)) - 4) (xs ++ encode (End count)) ≡ littleEndian 4 count
+pub last-four : (xs : List ℕ) (count : ℕ) → drop (length (xs ++ encode (End count)) - 4) (xs ++ encode (End count)) ≡ littleEndian 4 count
 unfolding encode fieldsOf
 last-four xs count =
     let e : length (xs ++ encode (End count)) - 4 ≡ length xs + 2 = omega (arith, length-append xs (encode (End count)), length-encode (End count)) in

@@ -17,20 +17,25 @@ use Rattle.sets.proofs.Concat.{concat-same, keep-nil}
 use Rattle.records.specs.Limits.{maxTicks}
 use Rattle.cores.specs.Orders.{highestOrder, highestMembers}
 use Rattle.cores.specs.Rows.{graph}
-use Rattle.cores.proofs.Orders.{top-score, score-same, highest-same}
+use Rattle.cores.proofs.Orders.{score-same, highest-same}
 use Rattle.groups.specs.Spans.{spanNeighbours, spanRows}
 use Rattle.groups.specs.SpanCores.{SpanCore, topOn}
+use Rattle.groups.specs.Plans.{scoreOn}
 use Rattle.groups.specs.Reports.{groupsOn, groupsFrom}
 use Rattle.groups.specs.Lines.{LineRows, LineCores, topBefore, topAfter, groupMembers, OrdersBefore, LineGroups}
 use Rattle.groups.specs.Appending.{lineList}
 use Rattle.groups.proofs.NumbersCall.{rows-fewer, rows-more}
-use Rattle.groups.proofs.Maximal.{before-none, before-more, top-falls, after-yes, after-no, groups-on}
+use Rattle.groups.proofs.Maximal.{score-top, before-none, before-more, top-falls, after-yes, after-no, groups-on}
 
 -- the highest core of a span's rows is that of the span
 module _ (n : ℕ) (ws : List ℕ) (first last : ℕ) (w : n ≤ capacity) {rows : List ℕ} (e : rows ≡ spanRows n ws first last) (above : ℕ) where
+  pub rows-score : (query : ℕ) → highestOrder (graph rows) (full n) query above ≡ max above (scoreOn n ws query first last)
+  unfolding highestOrder scoreOn
+  rows-score query = rw e (ap (max above) (score-same (full n) query (rows-fewer n ws first last w) (rows-more n ws first last w)))
+
   pub rows-order : highestOrder (graph rows) (full n) 0 above ≡ max above (topOn n ws first last)
-  unfolding highestOrder topOn
-  rows-order = rw e (ap (max above) (score-same (full n) 0 (rows-fewer n ws first last w) (rows-more n ws first last w) ∙ sym (top-score (spanNeighbours n ws first last) (full n))))
+  unfolding scoreOn
+  rows-order = rows-score 0 ∙ ap (max above) (score-top n ws first last)
 
   pub rows-members : highestMembers (graph rows) (full n) 0 above ≡ highestMembers (spanNeighbours n ws first last) (full n) 0 above
   rows-members = rw e (highest-same (full n) 0 above (rows-fewer n ws first last w) (rows-more n ws first last w))

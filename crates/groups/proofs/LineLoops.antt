@@ -134,7 +134,7 @@ tick-whole : (tick : List ℕ) → length tick ≡ capacity → tickRows tick �
 unfolding tickRows
 tick-whole tick e = sym (tabulate-is capacity tick _ e (λ u l. refl))
 
-rows-of : (table : List ℕ) (i : ℕ) → i * capacity + capacity ≤ length table
+pub rows-of : (table : List ℕ) (i : ℕ) → i * capacity + capacity ≤ length table
     → tickRows (take (i * capacity + capacity - i * capacity) (drop (i * capacity) table)) ≡ rowsAt table i
 unfolding rowsAt
 rows-of table i h =

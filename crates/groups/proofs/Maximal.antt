@@ -13,15 +13,16 @@ use Rattle.sets.specs.Bools.{_and_, _or_, isnt}
 use Rattle.sets.specs.Sets.{full}
 use Rattle.sets.specs.Tables.{concatBelow, keepIf}
 use Rattle.sets.proofs.Bools.{clash, and-in, and-left, and-right, or-left, or-right, or-of, isnt-in, isnt-of, all-in, all-of}
-use Rattle.sets.proofs.Sets.{sub-refl, sub-pos}
+use Rattle.sets.proofs.Sets.{sub-refl, sub-trans, sub-pos}
 use Rattle.sets.proofs.Size.{size-full}
 use Rattle.sets.proofs.Concat.{concat-nil, concat-only, keep-nil, keep-all}
 use Rattle.cores.specs.Cores.{core}
 use Rattle.cores.specs.Orders.{score}
 use Rattle.cores.proofs.Cores.{core-mono, core-order}
-use Rattle.cores.proofs.Orders.{top-of, top-in, top-score, highest-yes, highest-no}
+use Rattle.cores.proofs.Orders.{contains-of, contains-in, score-of, score-in, top-of, top-in, top-score, highest-yes, highest-no}
 use Rattle.groups.specs.Spans.{isSpan, spanNeighbours}
 use Rattle.groups.specs.SpanCores.{SpanCore, coreOn, hasCore, topOn}
+use Rattle.groups.specs.Plans.{scoreOn}
 use Rattle.groups.specs.Reports.{asLarge, same, isMaximal, isGroup, groupsOn}
 use Rattle.groups.specs.Lines.{topBefore, topAfter, groupMembers}
 use Rattle.groups.proofs.SpanRows.{span-fewer}
@@ -54,18 +55,29 @@ pub before-more : (n : ℕ) (ws : List ℕ) (first last : ℕ) → topBefore n w
 unfolding topBefore
 before-more n ws first last = refl
 
--- a core on a span is one on every span within it, and the largest order falls as a span grows
-has-falls : (n : ℕ) (ws : List ℕ) (k first last first′ last′ : ℕ) → first′ ≤ first → last ≤ last′ → hasCore n ws k first′ last′ ≡ true → hasCore n ws k first last ≡ true
-unfolding hasCore coreOn
-has-falls n ws k first last first′ last′ l r e =
-    lt-ltb _ _ (sub-pos (core-mono (full n) (full n) k k (sub-refl _) (span-fewer n ws (full n) first last first′ last′ l r) (le-refl k)) (ltb-true _ _ e))
+-- the score of a query falls as a span grows: the core on a span lies in the core of the same order on every span within it
+pub score-falls : (n : ℕ) (ws : List ℕ) (query first last first′ last′ : ℕ) → first′ ≤ first → last ≤ last′
+    → scoreOn n ws query first′ last′ ≤ scoreOn n ws query first last
+unfolding scoreOn
+score-falls n ws query first last first′ last′ l r = go (scoreOn n ws query first′ last′) refl
+  where
+    go : (k : ℕ) → scoreOn n ws query first′ last′ ≡ k → k ≤ scoreOn n ws query first last
+    go zero e = zero-le
+    go (suc k) e =
+        let c = contains-of (spanNeighbours n ws first′ last′) (full n) query (suc k) (score-of _ _ query (suc k) (suc-le-suc zero-le) (omega arith)) in
+        let f = core-mono (full n) (full n) (suc k) (suc k) (sub-refl _) (span-fewer n ws (full n) first last first′ last′ l r) (le-refl _) in
+        score-in _ _ query (suc k) (contains-in _ _ query (suc k) (sub-pos f (c .0)) (sub-trans (c .1) f))
+
+-- the largest order is the score of the empty query, and so it falls too
+pub score-top : (n : ℕ) (ws : List ℕ) (first last : ℕ) → score (spanNeighbours n ws first last) (full n) 0 ≡ topOn n ws first last
+unfolding topOn
+score-top n ws first last = sym (top-score (spanNeighbours n ws first last) (full n))
 
 pub top-falls : (n : ℕ) (ws : List ℕ) (first last first′ last′ : ℕ) → first′ ≤ first → last ≤ last′ → topOn n ws first′ last′ ≤ topOn n ws first last
-top-falls n ws first last first′ last′ l r = go (topOn n ws first′ last′) refl
-  where
-    go : (k : ℕ) → topOn n ws first′ last′ ≡ k → k ≤ topOn n ws first last
-    go zero e = zero-le
-    go (suc k) e = top-has n ws (suc k) first last (has-falls n ws (suc k) first last first′ last′ l r (has-top n ws (suc k) first′ last′ (suc-le-suc zero-le) (omega arith)))
+unfolding scoreOn
+top-falls n ws first last first′ last′ l r =
+    let h : score (spanNeighbours n ws first′ last′) (full n) 0 ≤ score (spanNeighbours n ws first last) (full n) 0 = score-falls n ws 0 first last first′ last′ l r in
+    omega (arith, score-top n ws first last, score-top n ws first′ last′)
 
 -- the largest order on the span that is one tick longer at its end, if there is one
 pub after-yes : (n T : ℕ) (ws : List ℕ) (first last : ℕ) → suc last < T → topAfter n T ws first last ≡ topOn n ws first (suc last)
@@ -183,17 +195,13 @@ module _ (n T : ℕ) (ws : List ℕ) (first last : ℕ) (m : first ≤ last) (w 
 
 -- the members of the maximal core on a span, where there is one and where there is none
 module _ (n T : ℕ) (ws : List ℕ) (first last : ℕ) where
-  score-top : score (spanNeighbours n ws first last) (full n) 0 ≡ topOn n ws first last
-  unfolding topOn
-  score-top = sym (top-score (spanNeighbours n ws first last) (full n))
-
   pub members-yes : max (topBefore n ws first last) (topAfter n T ws first last) < topOn n ws first last → groupMembers n T ws first last ≡ coreOn n ws (topOn n ws first last) first last
   unfolding groupMembers coreOn
-  members-yes h = highest-yes _ _ 0 _ (omega (arith, score-top)) ∙ ap (core (spanNeighbours n ws first last) (full n)) score-top
+  members-yes h = highest-yes _ _ 0 _ (omega (arith, score-top n ws first last)) ∙ ap (core (spanNeighbours n ws first last) (full n)) (score-top n ws first last)
 
   pub members-no : topOn n ws first last ≤ max (topBefore n ws first last) (topAfter n T ws first last) → groupMembers n T ws first last ≡ 0
   unfolding groupMembers
-  members-no h = highest-no _ _ 0 _ (omega (arith, score-top))
+  members-no h = highest-no _ _ 0 _ (omega (arith, score-top n ws first last))
 
 -- So the groups on a span are the one with these members, of the largest order, if there are any.
 pub groups-on : (n T : ℕ) (ws : List ℕ) (first last : ℕ) → first ≤ last → last < T

@@ -1,5 +1,5 @@
 -- Substitutes for core numbers that document 01's acceptance list names, each refuted from the promise that the call keeps (specs/CoreNumbers).
-use mathlib.Core.Path.{_≡_, refl, sym, ap, _∙_}
+use mathlib.Core.Path.{_≡_, sym, ap, _∙_}
 use mathlib.Core.List.{List, [], _∷_, _++_}
 use Prim.Native.Nat.{ℕ, _≤_}
 use native.Mathlib.Omega.{arith}
@@ -8,12 +8,11 @@ use Rattle.sets.specs.Sets.{size}
 use Rattle.sets.specs.Tables.{tabulate}
 use Rattle.records.specs.Outcomes.{Outcome}
 use Rattle.log.specs.Buffers.{Delivered}
-use Rattle.log.proofs.Scan.{day-of}
 use Rattle.groups.specs.Spans.{SpanOfDay, spanNeighbours}
 use Rattle.groups.specs.Calls.{coreNumbersOf}
 use Rattle.groups.specs.CoreNumbers.{GivesCoreNumbers}
 use Rattle.groups.proofs.Theorems.{gives-core-numbers}
-use Rattle.groups.proofs.Examples.{computing, d1Words}
+use Rattle.groups.proofs.Examples.{computing, d1Words, still, d1-lent, still-lent}
 
 -- The promise leaves no choice: on every span of a day, lent enough, a call that keeps it does what ours does.
 pub promised-numbers : (call : ℕ → ℕ → List ℕ → ℕ → ℕ → List ℕ → Delivered) → GivesCoreNumbers call
@@ -23,17 +22,12 @@ promised-numbers call p n T ws first last buffer d h =
     let x = gives-core-numbers .exist n T ws first last d in
     p .succeeds n T ws first last buffer (x .0) d (x .1) h ∙ sym (gives-core-numbers .succeeds n T ws first last buffer (x .0) d (x .1) h)
 
--- D1's words, and words without contacts
+-- a span of D1, and of a day without contacts
 d1-span : SpanOfDay 4 3 d1Words 0 1
-unfolding computing
-d1-span = record { lent = record { limits = refl; enough = omega arith; day = day-of 4 3 d1Words refl }; rising = omega arith; inside = omega arith }
-
-still : List ℕ
-still = replicate 12 0
+d1-span = record { lent = d1-lent; rising = omega arith; inside = omega arith }
 
 still-span : SpanOfDay 4 3 still 0 1
-unfolding computing still
-still-span = record { lent = record { limits = refl; enough = omega arith; day = day-of 4 3 (replicate 12 0) refl }; rising = omega arith; inside = omega arith }
+still-span = record { lent = still-lent; rising = omega arith; inside = omega arith }
 
 -- Numbers that the words do not decide, with whatever answer.
 module _ (answer : ℕ → ℕ → List ℕ → ℕ → ℕ → List ℕ → Outcome ℕ) (bytes : ℕ → ℕ → ℕ → ℕ → List ℕ) where
@@ -41,7 +35,7 @@ module _ (answer : ℕ → ℕ → List ℕ → ℕ → ℕ → List ℕ → Out
   inventing n T ws first last buffer = record { answer = answer n T ws first last buffer; buffer = bytes n T first last ++ drop n buffer }
 
   pub numbers-without-words : GivesCoreNumbers inventing → ⊥
-  unfolding computing still
+  unfolding computing
   numbers-without-words p =
       let lent : List ℕ = 0 ∷ 0 ∷ 0 ∷ 0 ∷ [] in
       let a : inventing 4 3 d1Words 0 1 lent .buffer ≡ 2 ∷ 2 ∷ 2 ∷ 1 ∷ [] = ap (λ (x : Delivered). x .buffer) (promised-numbers inventing p 4 3 d1Words 0 1 lent d1-span (omega arith)) in

@@ -63,6 +63,18 @@ span-fewer n ws s first last first′ last′ l r = record {
       in-span n ws first last u v (h .0) (λ t p q. h .1 t (omega arith) (omega arith));
 }
 
+-- words with the same neighbours of n badges in T ticks
+abbrev pub SameDay : ℕ → ℕ → List ℕ → List ℕ → Type 0
+SameDay n T xs ys = (t u : ℕ) → t < T → u < n → neighbours n xs t u ≡ neighbours n ys t u
+
+-- have the same pairs on every span of the day,
+pub fewer-head : (n T : ℕ) (xs ys : List ℕ) (first last : ℕ) → last < T → SameDay n T xs ys → FewerPairs (full n) (spanNeighbours n xs first last) (spanNeighbours n ys first last)
+fewer-head n T xs ys first last h f = record {
+  pair = λ u v i j k.
+      let r = of-span n xs first last u v k in
+      in-span n ys first last u v (r .0) (λ t p q. rw (f t u (omega arith) (of-full n u i)) at (r .1 t p q));
+}
+
 -- the rows of a span: as many as a set can hold badges, the neighbours of each badge below n, and nothing from n up
 pub span-length : (n : ℕ) (ws : List ℕ) (first last : ℕ) → length (spanRows n ws first last) ≡ capacity
 unfolding spanRows

@@ -10,16 +10,14 @@ use lib.ListN.{length, getD, drop}
 use lib.Seq.{ext-getD}
 use Rattle.sets.specs.Sets.{In, full}
 use Rattle.sets.proofs.Bools.{clash}
-use Rattle.sets.proofs.Sets.{of-full, sub-refl}
+use Rattle.sets.proofs.Sets.{sub-refl}
 use Rattle.sets.proofs.Tables.{tabulate-length, tabulate-at, tabulate-same}
 use Rattle.records.specs.Limits.{wordsFor}
 use Rattle.records.specs.Outcomes.{Outcome, refused, success, andThen}
-use Rattle.log.specs.Days.{neighbours}
 use Rattle.log.specs.Buffers.{deliver}
 use Rattle.log.proofs.Days.{neighbours-append}
 use Rattle.log.proofs.Checks.{check-day, check-rest}
 use Rattle.log.proofs.Delivering.{deliver-short, deliver-fits}
-use Rattle.cores.specs.Graphs.{FewerPairs}
 use Rattle.cores.specs.Orders.{coreNumber}
 use Rattle.cores.proofs.Orders.{member-pos, number-by-sets, number-same}
 use Rattle.groups.specs.Spans.{isSpan, SpanOfDay, spanNeighbours}
@@ -27,7 +25,7 @@ use Rattle.groups.specs.Contacts.{OfOrder}
 use Rattle.groups.specs.Calls.{coreNumberBytes, spanJudged, coreNumbersOf}
 use Rattle.groups.specs.CoreNumbers.{AreCoreNumbers, GivesCoreNumbers}
 use Rattle.groups.proofs.OrderSets.{order-cohesive, cohesive-order}
-use Rattle.groups.proofs.SpanRows.{in-span, of-span}
+use Rattle.groups.proofs.SpanRows.{SameDay, fewer-head}
 use Rattle.groups.proofs.NumbersCall.{span-in, span-of, judged-yes, judged-no, numbers-passed}
 
 -- For k from 1: the core number of a badge on a span is at least k exactly when some set of order k has the badge.
@@ -84,19 +82,12 @@ gives-core-numbers = record {
 }
 
 -- the bytes depend on the neighbours of n badges in T ticks alone
-numbers-head : (n T : ℕ) (xs ys : List ℕ) (first last : ℕ) → last < T → ((t u : ℕ) → t < T → u < n → neighbours n xs t u ≡ neighbours n ys t u)
-    → coreNumberBytes n xs first last ≡ coreNumberBytes n ys first last
+numbers-head : (n T : ℕ) (xs ys : List ℕ) (first last : ℕ) → last < T → SameDay n T xs ys → coreNumberBytes n xs first last ≡ coreNumberBytes n ys first last
 unfolding coreNumberBytes
-numbers-head n T xs ys first last h f = tabulate-same n _ _ (λ u l. number-same (full n) (fewer xs ys f) (fewer ys xs (λ t v a b. sym (f t v a b))) u)
-  where
-    fewer : (xs ys : List ℕ) → ((t u : ℕ) → t < T → u < n → neighbours n xs t u ≡ neighbours n ys t u) → FewerPairs (full n) (spanNeighbours n xs first last) (spanNeighbours n ys first last)
-    fewer xs ys f = record {
-      pair = λ u v i j k.
-          let r = of-span n xs first last u v k in
-          in-span n ys first last u v (r .0) (λ t p q. rw (f t u (omega arith) (of-full n u i)) at (r .1 t p q));
-    }
+numbers-head n T xs ys first last h f =
+    tabulate-same n _ _ (λ u l. number-same (full n) (fewer-head n T xs ys first last h f) (fewer-head n T ys xs first last h (λ t v a b. sym (f t v a b))) u)
 
-judged-head : (n T : ℕ) (xs ys : List ℕ) (first last : ℕ) → ((t u : ℕ) → t < T → u < n → neighbours n xs t u ≡ neighbours n ys t u)
+judged-head : (n T : ℕ) (xs ys : List ℕ) (first last : ℕ) → SameDay n T xs ys
     → spanJudged n T xs first last ≡ spanJudged n T ys first last
 judged-head n T xs ys first last f = go (isSpan T first last) refl
   where

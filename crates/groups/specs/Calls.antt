@@ -1,6 +1,7 @@
 -- What the public calls answer and leave in the slices that were lent, for every input, by document 01's order.
 use mathlib.Core.List.{List}
-use Prim.Native.Nat.{ℕ}
+use mathlib.Core.Path.{_≡_}
+use Prim.Native.Nat.{ℕ, _≤_}
 use Rattle.sets.specs.Bools.{isnt}
 use Rattle.sets.specs.Sets.{full}
 use Rattle.sets.specs.Tables.{tabulate}
@@ -8,9 +9,11 @@ use Rattle.records.specs.Outcomes.{Outcome, success, refuseIf, andThen}
 use Rattle.log.specs.Buffers.{Delivered, deliver}
 use Rattle.log.specs.Calls.{checkOf}
 use Rattle.cores.specs.Orders.{coreNumber}
+use Rattle.cuts.specs.Cuttings.{IsBest}
 use Rattle.groups.specs.Spans.{isSpan, spanNeighbours}
 use Rattle.groups.specs.Reports.{groupsOf}
-use Rattle.groups.specs.Encoding.{reportBytes}
+use Rattle.groups.specs.Plans.{scoreOn, partsFrom, isQuery, isParts}
+use Rattle.groups.specs.Encoding.{reportBytes, planBytes}
 
 -- "core numbers (day words and a span to n bytes)": the core number of each of the n badges on the span, among all n badges
 unfoldable pub coreNumberBytes : ℕ → List ℕ → ℕ → ℕ → List ℕ
@@ -27,3 +30,27 @@ coreNumbersOf n T ws first last buffer = deliver (andThen (checkOf n T ws) (λ x
 -- report. "Calls on words: 10, 8, 11 first, then .. report 9."
 unfoldable pub reportOf : ℕ → ℕ → List ℕ → List ℕ → Delivered
 reportOf n T ws buffer = deliver (andThen (checkOf n T ws) (λ x. success (reportBytes n T (groupsOf n T ws)))) buffer
+
+-- The query and the number of parts are judged, and then the bytes are worked out, of the parts that a list of ends cuts. "13: the query has a
+-- badge of n or more. 14: h is 0 or above T."
+unfoldable pub planJudged : ℕ → ℕ → List ℕ → ℕ → ℕ → List ℕ → Outcome (List ℕ)
+planJudged n T ws query h ends = refuseIf (isnt (isQuery n query)) 13 0 (refuseIf (isnt (isParts T h)) 14 0 (success (planBytes n T h query (partsFrom n ws query 0 ends))))
+
+-- plan, given the list of part ends. "Calls on words: 10, 8, 11 first, then .. plan 13, 14, 9."
+unfoldable pub planOf : ℕ → ℕ → List ℕ → ℕ → ℕ → List ℕ → List ℕ → Delivered
+planOf n T ws query h ends buffer = deliver (andThen (checkOf n T ws) (λ x. planJudged n T ws query h ends)) buffer
+
+-- What plan leaves. "Among plans of equal sum any may be given": the list of ends is free, as long as it cuts the ticks into h runs and no
+-- cutting has a greater sum of scores. All else is fixed by it.
+pub record Planned (n T : ℕ) (ws : List ℕ) (query h : ℕ) (lent : List ℕ) (answer : Outcome ℕ) (left : List ℕ) : Type 0 where
+  pub ends : List ℕ
+  pub best : 1 ≤ h → h ≤ T → IsBest (scoreOn n ws query) T h ends
+  pub answers : answer ≡ planOf n T ws query h ends lent .answer
+  pub leaves : left ≡ planOf n T ws query h ends lent .buffer
+
+-- the same of a day whose words have passed
+pub record PlannedDay (n T : ℕ) (ws : List ℕ) (query h : ℕ) (lent : List ℕ) (answer : Outcome ℕ) (left : List ℕ) : Type 0 where
+  pub ends : List ℕ
+  pub best : 1 ≤ h → h ≤ T → IsBest (scoreOn n ws query) T h ends
+  pub answers : answer ≡ deliver (planJudged n T ws query h ends) lent .answer
+  pub leaves : left ≡ deliver (planJudged n T ws query h ends) lent .buffer

@@ -1,0 +1,120 @@
+-- Laws of the plan as it is encoded: the parts appended so far, and the whole; and how the call is judged.
+use mathlib.Core.Path.{_≡_, refl, sym, ap, ap₂, _∙_}
+use mathlib.Core.List.{List, [], _∷_, _++_, append-assoc}
+use Prim.Native.Nat.{ℕ, zero, suc, _+_, _-_, _*_, _≤_, _<_, zero-le}
+use native.Mathlib.Numerals.{add-one}
+use native.Mathlib.Omega.{arith}
+use lib.ListN.{length, getD, take, length-take}
+use lib.Seq.{getD-take, take-suc}
+use Rattle.sets.specs.Bytes.{littleEndian}
+use Rattle.records.specs.declared.record.Record.the-variants.{End}
+use Rattle.records.specs.Limits.{maxTicks}
+use Rattle.records.specs.Records.{encode}
+use Rattle.records.proofs.Records.{length-encode}
+use Rattle.log.specs.Buffers.{place}
+use Rattle.log.proofs.Delivering.{take-place}
+use Rattle.cuts.specs.Cuttings.{Cutting}
+use Rattle.groups.specs.Spans.{SpanOfDay}
+use Rattle.groups.specs.SpanCores.{SpanCore}
+use Rattle.groups.specs.Plans.{partOn, partsFrom}
+use Rattle.groups.specs.Encoding.{encodeCore, encodeCores, planBytes}
+use Rattle.groups.specs.Appending.{AppendsCores}
+use Rattle.groups.specs.Scoring.{PlanParts, EncodesPlan}
+use Rattle.groups.proofs.Appended.{encode-core-length, appends-none, appends-then}
+
+-- the tick after the ends so far
+pub nextFirst : ℕ → List ℕ → ℕ
+nextFirst t [] = t
+nextFirst t (e ∷ es) = nextFirst (suc e) es
+
+-- one end more is one part more
+parts-more : (n : ℕ) (ws : List ℕ) (query t : ℕ) (es : List ℕ) (e : ℕ) → partsFrom n ws query t (es ++ (e ∷ [])) ≡ partsFrom n ws query t es ++ (partOn n ws query (nextFirst t es) e ∷ [])
+unfolding partsFrom nextFirst
+parts-more n ws query t [] e = refl
+parts-more n ws query t (x ∷ es) e = ap {B = List SpanCore} (λ ps. partOn n ws query t x ∷ ps) (parts-more n ws query (suc x) es e)
+
+next-more : (t : ℕ) (es : List ℕ) (e : ℕ) → nextFirst t (es ++ (e ∷ [])) ≡ suc e
+unfolding nextFirst
+next-more t [] e = refl
+next-more t (x ∷ es) e = next-more (suc x) es e
+
+-- the ends of a cutting rise, up to the last tick
+module _ (T h : ℕ) (ends : List ℕ) (c : Cutting T h (take h ends)) where
+  end-at : (i : ℕ) → i < h → getD (take h ends) i 0 ≡ getD ends i 0
+  end-at i l = getD-take h ends i 0 l
+
+  end-rises : (i : ℕ) → suc i < h → getD ends i 0 < getD ends (suc i) 0
+  end-rises i l = omega (arith, c .rising i l, end-at i (omega arith), end-at (suc i) l)
+
+  end-inside : (d i : ℕ) → i + suc d ≡ h → getD ends i 0 < T
+  end-inside zero i e = omega (arith, c .last i (omega arith), end-at i (omega arith))
+  end-inside (suc d) i e = omega (arith, end-rises i (omega arith), end-inside d (suc i) (omega arith))
+
+-- Before the turn of part i: the parts before it are appended, and it starts after the end of the last.
+pub record PlanSoFar (n T : ℕ) (ws : List ℕ) (query h : ℕ) (ends : List ℕ) (i first count : ℕ) (buffer₀ buffer : List ℕ) : Type 0 where
+  pub asked : PlanParts n T ws query h ends buffer
+  pub high : i ≤ h
+  pub number : count ≡ i
+  pub next : first ≡ nextFirst 0 (take i ends)
+  pub low : i < h → first ≤ getD ends i 0
+  pub appended : AppendsCores 80 84 13 (partsFrom n ws query 0 (take i ends)) 0 count buffer₀ buffer
+
+-- a buffer of the same length does as well
+same-room : {n T : ℕ} {ws : List ℕ} {query h : ℕ} {ends x y : List ℕ} → length y ≡ length x → PlanParts n T ws query h ends x → PlanParts n T ws query h ends y
+same-room e p = record { lent = p .lent; cutting = p .cutting; ends-size = p .ends-size; room = omega (arith, p .room) }
+
+-- there are no more parts than ticks
+pub parts-few : {n T : ℕ} {ws : List ℕ} {query h : ℕ} {ends buffer : List ℕ} → PlanParts n T ws query h ends buffer → h ≤ maxTicks
+parts-few {h = h} {ends = ends} p = omega (arith, p .cutting .count, p .ends-size, length-take h ends)
+
+pub plan-none : {n T : ℕ} {ws : List ℕ} {query h : ℕ} {ends given buffer : List ℕ} → length buffer ≡ length given → PlanParts n T ws query h ends given → PlanSoFar n T ws query h ends 0 0 0 buffer buffer
+unfolding partsFrom nextFirst
+plan-none e p = record { asked = same-room e p; high = zero-le; number = refl; next = refl; low = λ l. zero-le; appended = appends-none }
+
+module _ {n T : ℕ} {ws : List ℕ} {query h : ℕ} {ends : List ℕ} {i first count : ℕ} {buffer₀ buffer : List ℕ} (s : PlanSoFar n T ws query h ends i first count buffer₀ buffer) where
+  pub plan-few : count ≤ maxTicks
+  plan-few = omega (arith, parts-few (s .asked), s .number, s .high)
+
+  module _ (l : i < h) where
+    pub plan-span : SpanOfDay n T ws first (getD ends i 0)
+    plan-span = record { lent = s .asked .lent; rising = s .low l; inside = end-inside T h ends (s .asked .cutting) (h - suc i) i (omega arith) }
+
+    pub plan-room : 13 + 13 * count + 13 ≤ length buffer
+    plan-room = omega (arith, s .asked .room, s .number)
+
+    pub plan-next : {last count′ : ℕ} {buffer′ : List ℕ} → last ≡ getD ends i 0 → AppendsCores 80 84 13 (partOn n ws query first last ∷ []) count count′ buffer buffer′
+        → PlanSoFar n T ws query h ends (i + 1) (last + 1) count′ buffer₀ buffer′
+    plan-next {last} {count′} {buffer′} e a =
+        let t : take (suc i) ends ≡ take i ends ++ (getD ends i 0 ∷ []) = take-suc ends i 0 (omega (arith, parts-few (s .asked), s .asked .ends-size)) in
+        let p : partsFrom n ws query 0 (take (suc i) ends) ≡ partsFrom n ws query 0 (take i ends) ++ (partOn n ws query first last ∷ []) = rw (t, parts-more n ws query 0 (take i ends) (getD ends i 0), ← s .next, ← e) in
+        let y : nextFirst 0 (take (suc i) ends) ≡ suc (getD ends i 0) = ap (nextFirst 0) t ∙ next-more 0 (take i ends) (getD ends i 0) in
+        let z : last + 1 ≡ suc (getD ends i 0) = omega arith in
+        rw add-one (record {
+          asked = same-room (a .size) (s .asked);
+          high = l;
+          number = omega (arith, a .number, s .number);
+          next = z ∙ sym y;
+          low = λ m. omega (arith, end-rises T h ends (s .asked .cutting) i m);
+          appended = rw p (appends-then (s .appended) a);
+        })
+
+-- the header and the end make it a plan
+pub plan-end : {n T : ℕ} {ws : List ℕ} {query h : ℕ} {ends : List ℕ} {i first count : ℕ} {buffer₀ buffer : List ℕ} (given left header : List ℕ)
+    → PlanSoFar n T ws query h ends i first count buffer₀ buffer → h ≤ i → 13 ≤ length given
+    → header ≡ encodeCore 80 72 (record { order = n; first = T; last = h; members = query }) → buffer₀ ≡ place 0 header given
+    → left ≡ place (13 + 13 * count) (encode (End count)) buffer → EncodesPlan n T ws query h ends left
+unfolding planBytes encodeCore
+plan-end {n} {T} {ws} {query} {h} {ends} {i} {first} {count} {buffer₀} {buffer} given left header s l g q e f =
+    let j : i ≡ h = omega (arith, s .high) in
+    let c : count ≡ h = omega (arith, s .number) in
+    let a : AppendsCores 80 84 13 (partsFrom n ws query 0 (take h ends)) 0 count buffer₀ buffer = rw j at (s .appended) in
+    let m : 13 + 13 * count + length (encode (End count)) ≡ 19 + 13 * h = omega (arith, length-encode (End count)) in
+    let k : length header ≡ 13 = ap length q ∙ encode-core-length 80 72 (record { order = n; first = T; last = h; members = query }) in
+    let head : take 13 buffer₀ ≡ header = rw k at (ap (take (0 + length header)) e ∙ take-place 0 header given (omega arith)) in
+    record {
+      bytes =
+          ap₂ (λ (x : ℕ) (y : List ℕ). take x y) (sym m) f
+          ∙ take-place (13 + 13 * count) (encode (End count)) buffer (omega (arith, s .asked .room))
+          ∙ ap₂ _++_ (a .bytes ∙ ap (λ (x : List ℕ). x ++ encodeCores 80 84 (partsFrom n ws query 0 (take h ends))) (head ∙ q)) (ap (λ (x : ℕ). encode (End x)) c)
+          ∙ append-assoc (80 ∷ 72 ∷ n ∷ T ∷ h ∷ littleEndian 8 query) (encodeCores 80 84 (partsFrom n ws query 0 (take h ends))) (encode (End h));
+    }

@@ -1,0 +1,13 @@
+-- `larger` meets its contract: each branch gives the larger of the two.
+use native.Mathlib.Omega.{arith}
+use Rattle.groups.proofs.lines.larger.Statement.{statement}
+use Rattle.groups.proofs.lines.larger.Tie as tie
+
+returns : tie.Need-returns
+returns c = omega arith
+
+returns-2 : tie.Need-returns-2
+returns-2 c = omega arith
+
+pub larger-spec : {M : Type 1} → statement M
+larger-spec = tie.close (tie.spec returns returns-2)

@@ -1,0 +1,52 @@
+-- `plan` meets its contract: the refusal of the check, or what the day's plan comes to; and so the plan statement.
+use mathlib.Core.Path.{_≡_, sym, ap, _∙_}
+use borrow.Author.Needs.{needs}
+use Rattle.records.specs.Outcomes.{success}
+use Rattle.log.specs.Calls.{checkOf, checkedOutcome}
+use Rattle.groups.proofs.PlanCall.{planned-checked, planned-day}
+use Rattle.groups.proofs.PlanTheorems.{plan-shown}
+use Rattle.groups.proofs.planning.plan.Statement.{statement}
+use Rattle.groups.proofs.planning.plan.Tie as tie
+
+-- the check passed
+passed : (c : tie.After-enum-told) → let a = c .before .before .before .before .before .args in checkOf (a .badges) (a .ticks) (a .words .now) ≡ success tt
+passed c = sym (c .before .before .check-words .ensures) ∙ ap checkedOutcome (c .enum-told .given .1)
+
+check-words-requires : tie.Need-check-words-requires
+check-words-requires c κs = search needs
+
+enum-known-refusal : tie.Need-enum-known-refusal
+enum-known-refusal c = search needs
+
+enum-told : tie.Need-enum-told
+enum-told c = search needs
+
+plan-day-requires : tie.Need-plan-day-requires
+plan-day-requires c κs = passed (c .before)
+
+returns : tie.Need-returns
+returns c =
+    let s = c .before .before .before in
+    let p = planned-checked _ _ _ _ _ (s .before .before .before .args .buffer .now) _ _ (sym (s .check-words .ensures) ∙ ap checkedOutcome (c .before .refusal .given .1)) in
+    (p, plan-shown p)
+
+same-length : tie.Need-same-length
+same-length c = search needs
+
+returns-2 : tie.Need-returns-2
+returns-2 c =
+    let d = c .before .before in
+    let p = planned-day (passed (d .before .before)) (d .plan-day .ensures) in
+    (p, plan-shown p)
+
+pub plan-spec : {M : Type 1} → statement M
+plan-spec =
+    tie.close
+    (tie.spec
+    check-words-requires
+    enum-known-refusal
+    enum-told
+    plan-day-requires
+    returns
+    same-length
+    returns-2)

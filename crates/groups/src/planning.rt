@@ -1,0 +1,163 @@
+// The call that plans a shift around a query.
+ghost use mathlib.Core.Path.{_≡_};
+ghost use mathlib.Core.List.{_∷_, []};
+ghost use Prim.Native.Nat.{_+_, _*_, _≤_, _<_};
+ghost use lib.ListN.{length};
+ghost use Rattle.sets.specs.Members.{members};
+ghost use Rattle.records.specs.Outcomes.{success};
+ghost use Rattle.log.specs.Calls.{checkOf};
+ghost use Rattle.groups.specs.Refusals.{writtenOutcome};
+ghost use Rattle.groups.specs.Spans.{SpanOfDay};
+ghost use Rattle.groups.specs.Plans.{partOn};
+ghost use Rattle.groups.specs.Appending.{AppendsCores};
+ghost use Rattle.groups.specs.Scoring.{shownMembers, PlanParts, EncodesPlan};
+ghost use Rattle.groups.specs.Calls.{PlannedDay, Planned};
+ghost use Rattle.groups.specs.ShiftPlans.{PlanShown};
+use crate::answer::Written;
+use crate::answer::delivered;
+use crate::encoding::append_core;
+use crate::encoding::core_bytes;
+use crate::refusal::Refusal;
+use crate::scoring::fill_scores;
+use crate::spans::span_rows;
+use log::Checked;
+use log::Record;
+use log::check_words;
+use log::put;
+use log::put_record;
+use sets::BadgeSet;
+
+// The members shown of a part: those of the core of its score, and at score 0 all n badges.
+fn shown(order: u8, core: BadgeSet, n: usize) -> BadgeSet
+    ensures { λ r. ⌜ members r ≡ shownMembers order (members core) n ⌝ }
+{
+    if order == 0 {
+        return BadgeSet::full(n);
+    }
+    core
+}
+
+// Appends the part of a run, and answers how many there are then.
+fn append_part(
+    words: &[u64],
+    n: usize,
+    ticks: usize,
+    query: BadgeSet,
+    first: usize,
+    last: usize,
+    buffer: &mut [u8],
+    count: usize,
+) -> usize
+    requires { ⌜ SpanOfDay n ticks (now words) first last × (13 + 13 * count + 13 ≤ length (now buffer)) ⌝ }
+    ensures { λ r. ⌜ AppendsCores 80 84 13 (partOn n (now (words .entry)) (members query) first last ∷ []) count r (now (buffer .entry)) (now (buffer .exit)) ⌝ }
+{
+    let rows = span_rows(words, n, ticks, first, last);
+    let core = cores::highest_core(rows, BadgeSet::full(n), query, 0);
+    let members = shown(core.order, core.members, n);
+    append_core(
+        buffer,
+        13,
+        count,
+        b'P',
+        b'T',
+        core.order,
+        first,
+        last,
+        members.to_word(),
+    )
+}
+
+// A byte as a larger number.
+fn widen(x: u8) -> usize
+    ensures { λ r. ⌜ (r ≡ x) × (r < 256) ⌝ }
+{
+    x as usize
+}
+
+// Encodes the plan of a day, cut at the given ends, in a buffer that holds it.
+fn encode_plan(
+    words: &[u64],
+    n: usize,
+    ticks: usize,
+    query: BadgeSet,
+    parts: usize,
+    ends: &[u8; 96],
+    buffer: &mut [u8],
+)
+    requires { ⌜ PlanParts n ticks (now words) (members query) parts (now ends) (now buffer) ⌝ }
+    ensures { λ _. ⌜ EncodesPlan n ticks (now (words .entry)) (members query) parts (now (ends .entry)) (now (buffer .exit)) ⌝ }
+{
+    let header = core_bytes(
+        b'P',
+        b'H',
+        n as u8,
+        ticks as u8,
+        parts as u8,
+        query.to_word(),
+    );
+    put(buffer, 0, &header);
+    let mut first: usize = 0;
+    let mut count: usize = 0;
+    for i in 0..parts {
+        let last = widen(ends[i]);
+        let appended = append_part(words, n, ticks, query, first, last, buffer, count);
+        count = appended;
+        first = last + 1;
+    }
+    put_record(
+        buffer,
+        13 + 13 * count,
+        Record::End {
+            count: count as u32,
+        },
+    );
+}
+
+// Plans a day whose words have passed: judged by 13, 14 and 9.
+fn plan_day(
+    words: &[u64],
+    badges: usize,
+    ticks: usize,
+    query: BadgeSet,
+    parts: usize,
+    buffer: &mut [u8],
+) -> Written
+    requires { ⌜ checkOf badges ticks (now words) ≡ success tt ⌝ }
+    ensures { λ r. ⌜ PlannedDay badges ticks (now (words .entry)) (members query) parts (now (buffer .entry)) (writtenOutcome r) (now (buffer .exit)) ⌝ }
+{
+    if !query.is_subset(BadgeSet::full(badges)) {
+        return Written::Refused(Refusal::ForeignQuery);
+    }
+    if parts < 1 {
+        return Written::Refused(Refusal::InvalidParts);
+    }
+    if ticks < parts {
+        return Written::Refused(Refusal::InvalidParts);
+    }
+    let mut scores = [0u8; 9216];
+    fill_scores(words, badges, ticks, query, &mut scores);
+    let ends = cuts::best_ends(&scores, ticks, parts);
+    let mut bytes = [0u8; 1267];
+    encode_plan(words, badges, ticks, query, parts, &ends, &mut bytes);
+    delivered(log::deliver(&bytes[..19 + 13 * parts], buffer))
+}
+
+// Plans a shift around a query: cuts the day into parts runs with the greatest sum of scores, puts the plan into the buffer that is lent, and
+// answers the number of bytes. Refused by 10, 8, 11, 13, 14 and 9, in that order; a refused call changes no byte, and bytes after the answer
+// are never touched.
+pub fn plan(
+    words: &[u64],
+    badges: usize,
+    ticks: usize,
+    query: BadgeSet,
+    parts: usize,
+    buffer: &mut [u8],
+) -> Written
+    ensures plan { λ r. ⌜ Planned badges ticks (now (words .entry)) (members query) parts (now (buffer .entry)) (writtenOutcome r) (now (buffer .exit)) ⌝ }
+    ensures shown { λ r. ⌜ PlanShown badges ticks (now (words .entry)) (members query) parts (writtenOutcome r) (now (buffer .exit)) ⌝ }
+{
+    match check_words(words, badges, ticks) {
+        Checked::Refused(refusal) => Written::Refused(Refusal::Log(refusal)),
+        Checked::Day => plan_day(words, badges, ticks, query, parts, buffer),
+    }
+}
