@@ -1,0 +1,46 @@
+-- `random_days::plans` is safe.
+use Prim.Native.Nat.{_-_}
+use borrow.Author.Needs.{needs}
+use Rattle.acceptance_plans.proofs.random_days.plans.Statement.{statement}
+use Rattle.acceptance_plans.proofs.random_days.plans.Tie as tie
+
+abbrev Inv-loop : tie.InvT-loop
+Inv-loop state₀ t₀ n₀ state t n = Unit
+
+abbrev μ-loop : tie.MeasureT-loop
+μ-loop state₀ t₀ n₀ state t n = 65 - n
+
+none-requires : tie.Need-none-requires Inv-loop μ-loop
+none-requires c κs = search needs
+
+loop-holds : tie.Need-loop-holds Inv-loop μ-loop
+loop-holds c = search needs
+
+random-plans-requires : tie.Need-random-plans-requires Inv-loop μ-loop
+random-plans-requires c κs = search needs
+
+add-n : tie.Need-add-n Inv-loop μ-loop
+add-n c = search needs
+
+loop-less : tie.Need-loop-less Inv-loop μ-loop
+loop-less c = search needs
+
+loop-again : tie.Need-loop-again Inv-loop μ-loop
+loop-again c = search needs
+
+returns : tie.Need-returns Inv-loop μ-loop
+returns c = search needs
+
+pub plans-spec : {M : Type 1} → statement M
+plans-spec =
+    tie.close
+    (tie.spec
+    Inv-loop
+    μ-loop
+    none-requires
+    loop-holds
+    random-plans-requires
+    add-n
+    loop-less
+    loop-again
+    returns)
