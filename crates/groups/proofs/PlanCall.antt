@@ -23,7 +23,7 @@ use Rattle.cuts.proofs.EndsOf.{ends-of}
 use Rattle.groups.specs.Plans.{scoreOn, partsFrom, isQuery, isParts}
 use Rattle.groups.specs.Encoding.{planBytes}
 use Rattle.groups.specs.Scoring.{Scores}
-use Rattle.groups.specs.Calls.{planJudged, planOf, Planned, PlannedDay}
+use Rattle.groups.specs.Calls.{planJudged, planOf, Planned}
 
 -- 13, 14, and the bytes
 module _ (n T : ℕ) (ws : List ℕ) (query h : ℕ) (ends : List ℕ) where
@@ -49,33 +49,23 @@ module _ (n T : ℕ) (ws : List ℕ) (query h : ℕ) (ends buffer : List ℕ) wh
   unfolding planOf
   plan-passed e = deliver-passed _ _ buffer tt e
 
--- a refusal, whatever the ends
-pub planned-refused : (n T : ℕ) (ws : List ℕ) (query h : ℕ) (lent : List ℕ) (number offset : ℕ) → ((ends : List ℕ) → planJudged n T ws query h ends ≡ refused number offset)
-    → PlannedDay n T ws query h lent (refused number offset) lent
-unfolding deliver
-planned-refused n T ws query h lent number offset e =
-    record { ends = bestEnds (scoreOn n ws query) T h; best = best-ends (scoreOn n ws query) T h; answers = rw (e (bestEnds (scoreOn n ws query) T h)); leaves = rw (e (bestEnds (scoreOn n ws query) T h)) }
-
-pub planned-checked : (n T : ℕ) (ws : List ℕ) (query h : ℕ) (lent : List ℕ) (number offset : ℕ) → checkOf n T ws ≡ refused number offset
+-- a refusal, whatever the ends: of the check, or of the query and the parts
+pub planned-refused : (n T : ℕ) (ws : List ℕ) (query h : ℕ) (lent : List ℕ) (number offset : ℕ)
+    → ((ends : List ℕ) → planOf n T ws query h ends lent ≡ record { answer = refused number offset; buffer = lent })
     → Planned n T ws query h lent (refused number offset) lent
-planned-checked n T ws query h lent number offset e =
-    let f = plan-refused n T ws query h (bestEnds (scoreOn n ws query) T h) lent number offset e in record {
+planned-refused n T ws query h lent number offset e =
+    let f = e (bestEnds (scoreOn n ws query) T h) in record {
       ends = bestEnds (scoreOn n ws query) T h;
       best = best-ends (scoreOn n ws query) T h;
       answers = sym (ap (λ (x : Delivered). x .answer) f);
       leaves = sym (ap (λ (x : Delivered). x .buffer) f);
     }
 
--- a day whose words have passed
-pub planned-day : {n T : ℕ} {ws : List ℕ} {query h : ℕ} {lent : List ℕ} {answer : Outcome ℕ} {left : List ℕ} → checkOf n T ws ≡ success tt
-    → PlannedDay n T ws query h lent answer left → Planned n T ws query h lent answer left
-planned-day {n} {T} {ws} {query} {h} {lent} e p =
-    let f = plan-passed n T ws query h (p .ends) lent e in record {
-      ends = p .ends;
-      best = p .best;
-      answers = p .answers ∙ sym (ap (λ (x : Delivered). x .answer) f);
-      leaves = p .leaves ∙ sym (ap (λ (x : Delivered). x .buffer) f);
-    }
+pub planned-judged : (n T : ℕ) (ws : List ℕ) (query h : ℕ) (lent : List ℕ) (number offset : ℕ) → checkOf n T ws ≡ success tt
+    → ((ends : List ℕ) → planJudged n T ws query h ends ≡ refused number offset) → Planned n T ws query h lent (refused number offset) lent
+unfolding deliver
+planned-judged n T ws query h lent number offset e j =
+    planned-refused n T ws query h lent number offset (λ ends. plan-passed n T ws query h ends lent e ∙ ap (λ (o : Outcome (List ℕ)). deliver o lent) (j ends))
 
 -- the ends found from a table of the scores are those of a cutting of greatest sum
 pub table-best : {n T : ℕ} {ws : List ℕ} {query h : ℕ} {scores : List ℕ} (ends : List ℕ) → Scores n T ws query T scores → 1 ≤ h → h ≤ T → T ≤ maxTicks → ends ≡ endsOf scores T h

@@ -47,10 +47,3 @@ pub record Planned (n T : ℕ) (ws : List ℕ) (query h : ℕ) (lent : List ℕ)
   pub best : 1 ≤ h → h ≤ T → IsBest (scoreOn n ws query) T h ends
   pub answers : answer ≡ planOf n T ws query h ends lent .answer
   pub leaves : left ≡ planOf n T ws query h ends lent .buffer
-
--- the same of a day whose words have passed
-pub record PlannedDay (n T : ℕ) (ws : List ℕ) (query h : ℕ) (lent : List ℕ) (answer : Outcome ℕ) (left : List ℕ) : Type 0 where
-  pub ends : List ℕ
-  pub best : 1 ≤ h → h ≤ T → IsBest (scoreOn n ws query) T h ends
-  pub answers : answer ≡ deliver (planJudged n T ws query h ends) lent .answer
-  pub leaves : left ≡ deliver (planJudged n T ws query h ends) lent .buffer

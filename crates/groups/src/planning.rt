@@ -11,7 +11,7 @@ ghost use Rattle.groups.specs.Spans.{SpanOfDay};
 ghost use Rattle.groups.specs.Plans.{partOn};
 ghost use Rattle.groups.specs.Appending.{AppendsCores};
 ghost use Rattle.groups.specs.Scoring.{shownMembers, PlanParts, EncodesPlan};
-ghost use Rattle.groups.specs.Calls.{PlannedDay, Planned};
+ghost use Rattle.groups.specs.Calls.{Planned};
 ghost use Rattle.groups.specs.ShiftPlans.{PlanShown};
 use crate::answer::Written;
 use crate::answer::delivered;
@@ -123,7 +123,7 @@ fn plan_day(
     buffer: &mut [u8],
 ) -> Written
     requires { ⌜ checkOf badges ticks (now words) ≡ success tt ⌝ }
-    ensures { λ r. ⌜ PlannedDay badges ticks (now (words .entry)) (members query) parts (now (buffer .entry)) (writtenOutcome r) (now (buffer .exit)) ⌝ }
+    ensures { λ r. ⌜ Planned badges ticks (now (words .entry)) (members query) parts (now (buffer .entry)) (writtenOutcome r) (now (buffer .exit)) ⌝ }
 {
     if !query.is_subset(BadgeSet::full(badges)) {
         return Written::Refused(Refusal::ForeignQuery);

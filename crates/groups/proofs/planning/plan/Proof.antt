@@ -1,9 +1,10 @@
 -- `plan` meets its contract: the refusal of the check, or what the day's plan comes to; and so the plan statement.
 use mathlib.Core.Path.{_≡_, sym, ap, _∙_}
 use borrow.Author.Needs.{needs}
+use Rattle.sets.specs.Members.{members}
 use Rattle.records.specs.Outcomes.{success}
 use Rattle.log.specs.Calls.{checkOf, checkedOutcome}
-use Rattle.groups.proofs.PlanCall.{planned-checked, planned-day}
+use Rattle.groups.proofs.PlanCall.{plan-refused, planned-refused}
 use Rattle.groups.proofs.PlanTheorems.{plan-shown}
 use Rattle.groups.proofs.planning.plan.Statement.{statement}
 use Rattle.groups.proofs.planning.plan.Tie as tie
@@ -27,7 +28,9 @@ plan-day-requires c κs = passed (c .before)
 returns : tie.Need-returns
 returns c =
     let s = c .before .before .before in
-    let p = planned-checked _ _ _ _ _ (s .before .before .before .args .buffer .now) _ _ (sym (s .check-words .ensures) ∙ ap checkedOutcome (c .before .refusal .given .1)) in
+    let a = s .before .before .before .args in
+    let e = sym (s .check-words .ensures) ∙ ap checkedOutcome (c .before .refusal .given .1) in
+    let p = planned-refused _ _ _ _ _ (a .buffer .now) _ _ (λ ends. plan-refused (a .badges) (a .ticks) (a .words .now) (members (a .query)) (a .parts) ends (a .buffer .now) _ _ e) in
     (p, plan-shown p)
 
 same-length : tie.Need-same-length
@@ -35,8 +38,7 @@ same-length c = search needs
 
 returns-2 : tie.Need-returns-2
 returns-2 c =
-    let d = c .before .before in
-    let p = planned-day (passed (d .before .before)) (d .plan-day .ensures) in
+    let p = c .before .before .plan-day .ensures in
     (p, plan-shown p)
 
 pub plan-spec : {M : Type 1} → statement M

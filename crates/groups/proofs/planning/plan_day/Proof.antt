@@ -13,12 +13,12 @@ use Rattle.sets.specs.Members.{capacity, members}
 use Rattle.records.specs.Limits.{maxTicks}
 use Rattle.records.specs.Outcomes.{Outcome, success}
 use Rattle.records.proofs.WithinLimits.{limits-of}
-use Rattle.log.specs.Buffers.{deliver}
+use Rattle.log.specs.Buffers.{Delivered, deliver}
 use Rattle.log.specs.Days.{LentDay}
 use Rattle.log.proofs.Checks.{check-passed}
 use Rattle.cuts.specs.Cuttings.{IsBest}
 use Rattle.groups.specs.Plans.{scoreOn}
-use Rattle.groups.proofs.PlanCall.{judged-query, judged-parts, judged-plan, planned-refused, table-best}
+use Rattle.groups.proofs.PlanCall.{judged-query, judged-parts, judged-plan, plan-passed, planned-judged, table-best}
 use Rattle.groups.proofs.planning.plan_day.Statement.{statement}
 use Rattle.groups.proofs.planning.plan_day.Tie as tie
 
@@ -39,13 +39,13 @@ is-subset-requires : tie.Need-is-subset-requires
 is-subset-requires c κs = search needs
 
 returns : tie.Need-returns
-returns c = planned-refused _ _ _ _ _ _ 13 0 (λ ends. judged-query _ _ _ _ _ ends (sym (asked (c .before)) ∙ not-true _ (c .if1 .taken)))
+returns c = planned-judged _ _ _ _ _ _ 13 0 (c .before .before .before .before .before .pre) (λ ends. judged-query _ _ _ _ _ ends (sym (asked (c .before)) ∙ not-true _ (c .if1 .taken)))
 
 returns-2 : tie.Need-returns-2
-returns-2 c = planned-refused _ _ _ _ _ _ 14 0 (λ ends. judged-parts _ _ _ _ _ ends (sym (asked (c .before .before)) ∙ not-false _ (c .before .if1 .left)) (λ h. omega (arith, h .0, c .if2 .taken)))
+returns-2 c = planned-judged _ _ _ _ _ _ 14 0 (c .before .before .before .before .before .before .pre) (λ ends. judged-parts _ _ _ _ _ ends (sym (asked (c .before .before)) ∙ not-false _ (c .before .if1 .left)) (λ h. omega (arith, h .0, c .if2 .taken)))
 
 returns-3 : tie.Need-returns-3
-returns-3 c = planned-refused _ _ _ _ _ _ 14 0 (λ ends. judged-parts _ _ _ _ _ ends (sym (asked (c .before .before .before)) ∙ not-false _ (c .before .before .if1 .left)) (λ h. omega (arith, h .1, c .if3 .taken)))
+returns-3 c = planned-judged _ _ _ _ _ _ 14 0 (c .before .before .before .before .before .before .before .pre) (λ ends. judged-parts _ _ _ _ _ ends (sym (asked (c .before .before .before)) ∙ not-false _ (c .before .before .if1 .left)) (λ h. omega (arith, h .1, c .if3 .taken)))
 
 -- there are no more parts than ticks
 few : (c : tie.Else3) → c .before .before .before .before .before .before .before .args .parts ≤ maxTicks
@@ -106,12 +106,14 @@ returns-4 c =
     let s = f .before .before .before .before .before .before .before .before in
     let a = s .before .before .before .before .args in
     let q = sym (asked s) ∙ not-false _ (f .before .before .before .before .before .before .before .if1 .left) in
-    let e = ap success (n .encode-plan .ensures .bytes) ∙ sym (judged-plan (a .badges) (a .ticks) (a .words .now) (members (a .query)) (a .parts) (take (a .parts) (f .best-ends .result)) q (omega (arith, f .before .before .before .before .before .before .if2 .left)) (omega (arith, f .before .before .before .before .before .if3 .left))) in
+    let ends = take (a .parts) (f .best-ends .result) in
+    let e = ap success (n .encode-plan .ensures .bytes) ∙ sym (judged-plan (a .badges) (a .ticks) (a .words .now) (members (a .query)) (a .parts) ends q (omega (arith, f .before .before .before .before .before .before .if2 .left)) (omega (arith, f .before .before .before .before .before .if3 .left))) in
+    let p = ap (λ (o : Outcome (List ℕ)). deliver o (a .buffer .now)) e ∙ sym (plan-passed (a .badges) (a .ticks) (a .words .now) (members (a .query)) (a .parts) ends (a .buffer .now) (s .before .before .before .before .pre)) in
     record {
-      ends = take (a .parts) (f .best-ends .result);
+      ends = ends;
       best = λ l m. best f;
-      answers = c .delivered .ensures ∙ d .deliver .ensures .0 ∙ ap (λ (o : Outcome (List ℕ)). deliver o (a .buffer .now) .answer) e;
-      leaves = d .deliver .ensures .1 ∙ ap (λ (o : Outcome (List ℕ)). deliver o (a .buffer .now) .buffer) e;
+      answers = c .delivered .ensures ∙ d .deliver .ensures .0 ∙ ap (λ (x : Delivered). x .answer) p;
+      leaves = d .deliver .ensures .1 ∙ ap (λ (x : Delivered). x .buffer) p;
     }
 
 pub plan-day-spec : {M : Type 1} → statement M
