@@ -2,18 +2,20 @@
 -- that the call keeps (specs/GroupStatement, specs/GroupReports).
 use mathlib.Core.Path.{_≡_, refl, sym, ap, _∙_}
 use mathlib.Core.List.{List, [], _∷_, _++_, List·Memᴰ·head, List·Memᴰ·tail, List·Memᴰ·not-nil, List·Memᴰ·cases-cons, List·Memᴰ·eq-of-singleton}
-use mathlib.Core.Logic.{_⊎_, inl, inr, ⊎-elim}
-use Prim.Native.Nat.{ℕ, _-_, _≤_}
+use mathlib.Core.Logic.{_⊎_, inl, inr, ⊎-elim, _↔_}
+use Prim.Native.Nat.{ℕ, _+_, _*_, _-_, _≤_, _<_}
 use native.Mathlib.Nat.{le-refl}
 use native.Mathlib.Omega.{arith}
-use lib.ListN.{length, take, drop, length-append}
+use lib.ListN.{length, replicate, take, drop, length-append, length-replicate}
 use lib.Seq.{take-at}
 use Rattle.sets.specs.Sets.{full}
 use Rattle.sets.specs.Bytes.{littleEndian, fromLittleEndian}
 use Rattle.sets.proofs.Sets.{sub-antisym}
 use Rattle.records.specs.declared.record.Record.the-variants.{End}
 use Rattle.records.specs.Records.{encode}
+use Rattle.records.specs.Outcomes.{refused}
 use Rattle.records.proofs.Records.{length-encode}
+use Rattle.records.proofs.Outcomes.{refused-success}
 use Rattle.log.specs.Days.{LentDay}
 use Rattle.log.specs.Buffers.{Delivered}
 use Rattle.groups.specs.SpanCores.{SpanCore, Mem}
@@ -21,6 +23,7 @@ use Rattle.groups.specs.Reports.{groupsOf}
 use Rattle.groups.specs.Encoding.{encodeCores, reportBytes, decodeCores, recordsAfter}
 use Rattle.groups.specs.GroupStatement.{Has, GroupStatement}
 use Rattle.groups.specs.GroupReports.{ReportsGroups}
+use Rattle.groups.proofs.Appended.{encode-cores-length}
 use Rattle.groups.proofs.Decoding.{last-four}
 use Rattle.groups.proofs.GroupLists.{groups-stated}
 use Rattle.groups.proofs.Examples.{computing, d1Words, still, d1-lent, still-lent}
@@ -116,6 +119,41 @@ fewer = record { order = 2; first = 0; last = 1; members = 3 }
 pub fewer-members : (xs : List SpanCore) → GroupStatement 4 3 d1Words (full 4) xs → Mem fewer xs → ⊥
 fewer-members xs s i = not-maximal xs s d1-lent fewer i (λ j. ⊎-elim (λ e. omega arith) (λ e. omega arith) (d1-members fewer j))
 
+-- a record of a report has 13 bytes, and header and end have 10
+report-length : (n T : ℕ) (cs : List SpanCore) → length (reportBytes n T cs) ≡ 10 + 13 * length cs
+unfolding reportBytes
+report-length n T cs = omega (arith, length-append (encodeCores 71 82 cs) (encode (End (length cs))), encode-cores-length 71 82 cs, length-encode (End (length cs)))
+
+-- a day without contacts has no groups
+none-still : {call : ℕ → ℕ → List ℕ → List ℕ → Delivered} {groups : ℕ → ℕ → List ℕ → List SpanCore} → ReportsGroups call groups → groups 4 3 still ≡ []
+unfolding computing
+none-still {call} {groups} p = empty (groups 4 3 still) (λ c i. List·Memᴰ·not-nil (stated-same (groups 4 3 still) [] (p .stated 4 3 still still-lent) (groups-stated 4 3 still still-lent) c i))
+  where
+    empty : (xs : List SpanCore) → ((c : SpanCore) → Mem c xs → ⊥) → xs ≡ []
+    empty [] h = refl
+    empty (c ∷ xs) h = absurd (h c (List·Memᴰ·head refl))
+
+-- 9 before measuring the answer: judged by any bound that n and T decide. A day without groups has a report of 10 bytes, and D1 a longer one.
+pub bound-before-measuring : (call : ℕ → ℕ → List ℕ → List ℕ → Delivered) (groups : ℕ → ℕ → List ℕ → List SpanCore) (bound : ℕ → ℕ → ℕ)
+    → ((n T : ℕ) (ws buffer : List ℕ) → LentDay n T ws → (call n T ws buffer .answer ≡ refused 9 0) ↔ (length buffer < bound n T))
+    → ReportsGroups call groups → ⊥
+bound-before-measuring call groups bound e p =
+    let low : 10 < bound 4 3 → ⊥ = λ h. refused-success (sym (e 4 3 still ten still-lent .1 (omega (arith, long))) ∙ ap (λ (x : Delivered). x .answer) (p .succeeds 4 3 still ten still-lent (omega (arith, short, long)))) in
+    low (omega (arith, e 4 3 d1Words ten d1-lent .0 (ap (λ (x : Delivered). x .answer) (p .measures 4 3 d1Words ten d1-lent (omega (arith, longer _ (d1-triple _ (p .stated 4 3 d1Words d1-lent)), long)))), long))
+  where
+    ten : List ℕ
+    ten = replicate 10 0
+
+    long : length ten ≡ 10
+    long = length-replicate {A = ℕ} 10 0
+
+    short : length (reportBytes 4 3 (groups 4 3 still)) ≡ 10
+    short = report-length 4 3 (groups 4 3 still) ∙ ap (λ (x : List SpanCore). 10 + 13 * length x) (none-still p)
+
+    longer : (xs : List SpanCore) → Mem triple xs → 10 < length (reportBytes 4 3 xs)
+    longer [] i = absurd (List·Memᴰ·not-nil i)
+    longer (x ∷ xs) i = omega (arith, report-length 4 3 (x ∷ xs))
+
 -- where bytes that differ in the ED count alone are equal, the four bytes of the two counts are the same
 same-four : (front : List ℕ) (count other : ℕ) (rest : List ℕ) → (front ++ encode (End count)) ++ rest ≡ (front ++ encode (End other)) ++ rest
     → littleEndian 4 count ≡ littleEndian 4 other
@@ -141,20 +179,11 @@ module _ (count : ℕ) (groups : ℕ → ℕ → List ℕ → List SpanCore) (ca
       same-four ((82 ∷ 72 ∷ n ∷ T ∷ []) ++ encodeCores 71 82 (groups n T ws)) count (length (groups n T ws)) (drop (length bytes) bytes)
       (sym (written n T ws bytes d (le-refl _)) ∙ ap (λ (x : Delivered). x .buffer) (p .succeeds n T ws bytes d (le-refl _)))
 
-  -- a day without contacts has no groups
-  none-still : groups 4 3 still ≡ []
-  unfolding computing
-  none-still = empty (groups 4 3 still) (λ c i. List·Memᴰ·not-nil (stated-same (groups 4 3 still) [] (p .stated 4 3 still still-lent) (groups-stated 4 3 still still-lent) c i))
-    where
-      empty : (xs : List SpanCore) → ((c : SpanCore) → Mem c xs → ⊥) → xs ≡ []
-      empty [] h = refl
-      empty (c ∷ xs) h = absurd (h c (List·Memᴰ·head refl))
-
   pub end-count-fixed : ⊥
   unfolding reportBytes recordsAfter decodeCores littleEndian fromLittleEndian
   end-count-fixed =
       let xs = groups 4 3 d1Words in
-      let a : littleEndian 4 (length xs) ≡ littleEndian 4 0 = sym (right-count d1-lent) ∙ right-count still-lent ∙ ap (λ (x : List SpanCore). littleEndian 4 (length x)) none-still in
+      let a : littleEndian 4 (length xs) ≡ littleEndian 4 0 = sym (right-count d1-lent) ∙ right-count still-lent ∙ ap (λ (x : List SpanCore). littleEndian 4 (length x)) (none-still p) in
       let b : drop (length (reportBytes 4 3 xs) - 4) (reportBytes 4 3 xs) ≡ littleEndian 4 0 = last-four ((82 ∷ 72 ∷ 4 ∷ 3 ∷ []) ++ encodeCores 71 82 xs) (length xs) ∙ a in
       let c : xs ≡ [] = sym (p .said 4 3 d1Words d1-lent) ∙ ap (λ (x : List ℕ). decodeCores (fromLittleEndian x) (drop 4 (reportBytes 4 3 xs))) b in
       List·Memᴰ·not-nil (rw c at (d1-triple xs (p .stated 4 3 d1Words d1-lent)))
