@@ -11,10 +11,10 @@ use Rattle.sets.specs.Tables.{tabulate, concatBelow, keepIf}
 use Rattle.records.specs.Limits.{withinLimits}
 use Rattle.records.specs.Records.{fieldsOf, encode}
 use Rattle.records.specs.Outcomes.{refused, success, refuseIf, andThen}
-use Rattle.log.specs.Days.{LentDay, neighbours, adjacent, isTick, isDay}
+use Rattle.days.specs.Days.{LentDay, neighbours, adjacent, isTick, isDay}
+use Rattle.days.specs.Calls.{checkOf}
+use Rattle.days.proofs.Scan.{day-of}
 use Rattle.log.specs.Buffers.{deliver}
-use Rattle.log.specs.Calls.{checkOf}
-use Rattle.log.proofs.Scan.{day-of}
 use Rattle.cores.specs.Graphs.{degree}
 use Rattle.cores.specs.Cores.{strip, strips, core}
 use Rattle.cores.specs.Orders.{largest, coreNumber, contains, score}

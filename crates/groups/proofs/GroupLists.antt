@@ -12,7 +12,7 @@ use Rattle.sets.proofs.Bools.{clash, and-in, and-left, and-right}
 use Rattle.sets.proofs.Sets.{sub-refl, sub-pos}
 use Rattle.sets.proofs.Concat.{in-concat, of-concat, keep-nil, in-keep, of-keep}
 use Rattle.sets.proofs.Pairwise.{Pairwise, nothing, pairwise-one, pairwise-concat, pairwise-keep, pairwise-two}
-use Rattle.log.specs.Days.{LentDay}
+use Rattle.days.specs.Days.{LentDay}
 use Rattle.cores.proofs.Cores.{core-sub, core-cohesive, core-largest}
 use Rattle.groups.specs.Spans.{SpanOfDay}
 use Rattle.groups.specs.Contacts.{OfOrder}

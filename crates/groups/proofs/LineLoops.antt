@@ -15,8 +15,8 @@ use Rattle.sets.specs.Members.{capacity}
 use Rattle.sets.proofs.Tables.{tabulate-is}
 use Rattle.records.specs.Limits.{maxTicks}
 use Rattle.records.proofs.WithinLimits.{limits-of}
+use Rattle.days.specs.Days.{LentDay}
 use Rattle.log.specs.Buffers.{overwrite}
-use Rattle.log.specs.Days.{LentDay}
 use Rattle.log.proofs.Delivering.{overwrite-paste}
 use Rattle.cores.specs.Orders.{highestOrder, highestMembers}
 use Rattle.cores.specs.Rows.{graph}

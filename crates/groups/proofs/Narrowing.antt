@@ -10,7 +10,7 @@ use Rattle.sets.specs.Sets.{intersection}
 use Rattle.sets.specs.Members.{capacity}
 use Rattle.sets.proofs.Tables.{front, front-done}
 use Rattle.records.proofs.WithinLimits.{limits-of}
-use Rattle.log.proofs.Days.{tick-fits}
+use Rattle.days.proofs.Days.{tick-fits}
 use Rattle.groups.specs.Spans.{SpanOfDay, spanRows}
 use Rattle.groups.specs.Steps.{tickOf, tickRows, narrowed, Narrows}
 use Rattle.groups.proofs.SpanRows.{intersection-none, tick-span, narrow-span}

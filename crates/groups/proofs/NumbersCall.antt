@@ -14,10 +14,10 @@ use Rattle.sets.proofs.Bools.{and-in, and-left, and-right, to-false}
 use Rattle.sets.proofs.Sets.{of-full}
 use Rattle.sets.proofs.Tables.{tabulate-take, tabulate-same}
 use Rattle.records.specs.Outcomes.{refused, success, refuseIf}
+use Rattle.days.specs.Calls.{checkOf}
+use Rattle.days.proofs.Checks.{check-passed}
 use Rattle.log.specs.Buffers.{deliver}
-use Rattle.log.specs.Calls.{checkOf}
 use Rattle.log.proofs.Delivering.{deliver-refused, deliver-passed}
-use Rattle.log.proofs.Checks.{check-passed}
 use Rattle.cores.specs.Graphs.{FewerPairs}
 use Rattle.cores.specs.Rows.{graph, coreNumbers}
 use Rattle.cores.proofs.Orders.{number-same}

@@ -12,8 +12,8 @@ use Rattle.sets.specs.Sets.{isSub, full}
 use Rattle.sets.proofs.Bools.{and-in, and-left, and-right, to-false}
 use Rattle.records.specs.Limits.{maxTicks}
 use Rattle.records.specs.Outcomes.{Outcome, refused, success, refuseIf}
+use Rattle.days.specs.Calls.{checkOf}
 use Rattle.log.specs.Buffers.{Delivered, deliver}
-use Rattle.log.specs.Calls.{checkOf}
 use Rattle.log.proofs.Delivering.{deliver-refused, deliver-passed}
 use Rattle.cuts.specs.Cuttings.{total, Cutting, IsBest}
 use Rattle.cuts.specs.Sums.{bestEnds, tableScore, endsOf}

@@ -14,9 +14,9 @@ use Rattle.records.specs.declared.record.Record.the-variants.{End}
 use Rattle.records.specs.Records.{encode}
 use Rattle.records.specs.Outcomes.{success}
 use Rattle.records.proofs.Records.{length-encode}
-use Rattle.log.specs.Days.{LentDay}
+use Rattle.days.specs.Days.{LentDay}
+use Rattle.days.proofs.Scan.{day-of}
 use Rattle.log.specs.Buffers.{Delivered}
-use Rattle.log.proofs.Scan.{day-of}
 use Rattle.cuts.specs.Sums.{bestEnds}
 use Rattle.cuts.proofs.Sums.{best-ends}
 use Rattle.groups.specs.Spans.{SpanOfDay}

@@ -12,9 +12,9 @@ use Rattle.sets.proofs.Sets.{is-sub-in, is-sub-of}
 use Rattle.records.specs.Outcomes.{Outcome, refused, success}
 use Rattle.records.proofs.Outcomes.{refused-success, success-same}
 use Rattle.records.proofs.WithinLimits.{limits-of}
+use Rattle.days.specs.Calls.{checkOf}
+use Rattle.days.proofs.Checks.{check-day, check-passed}
 use Rattle.log.specs.Buffers.{Delivered, deliver}
-use Rattle.log.specs.Calls.{checkOf}
-use Rattle.log.proofs.Checks.{check-day, check-passed}
 use Rattle.log.proofs.Delivering.{deliver-short, deliver-fits}
 use Rattle.groups.specs.SpanCores.{SpanCore}
 use Rattle.groups.specs.Plans.{partsFrom}

@@ -11,7 +11,7 @@ use Rattle.records.specs.Limits.{maxTicks}
 use Rattle.records.specs.Records.{encode}
 use Rattle.records.proofs.Records.{length-encode}
 use Rattle.records.proofs.WithinLimits.{limits-of}
-use Rattle.log.specs.Days.{LentDay}
+use Rattle.days.specs.Days.{LentDay}
 use Rattle.log.specs.Buffers.{place}
 use Rattle.log.proofs.Delivering.{take-place}
 use Rattle.groups.specs.Reports.{groupsFrom, groupsOf}

@@ -16,7 +16,7 @@ use Rattle.records.specs.Records.{encode}
 use Rattle.records.specs.Outcomes.{refused}
 use Rattle.records.proofs.Records.{length-encode}
 use Rattle.records.proofs.Outcomes.{refused-success}
-use Rattle.log.specs.Days.{LentDay}
+use Rattle.days.specs.Days.{LentDay}
 use Rattle.log.specs.Buffers.{Delivered}
 use Rattle.groups.specs.SpanCores.{SpanCore, Mem}
 use Rattle.groups.specs.Reports.{groupsOf}

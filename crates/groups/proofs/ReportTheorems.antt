@@ -22,10 +22,10 @@ use Rattle.records.specs.Limits.{maxTicks}
 use Rattle.records.specs.Outcomes.{Outcome, refused, success}
 use Rattle.records.proofs.Outcomes.{refused-success, success-same}
 use Rattle.records.proofs.WithinLimits.{limits-of}
-use Rattle.log.specs.Days.{LentDay}
+use Rattle.days.specs.Days.{LentDay}
+use Rattle.days.specs.Calls.{checkOf}
+use Rattle.days.proofs.Checks.{check-day, check-passed}
 use Rattle.log.specs.Buffers.{Delivered, deliver}
-use Rattle.log.specs.Calls.{checkOf}
-use Rattle.log.proofs.Checks.{check-day, check-passed}
 use Rattle.log.proofs.Delivering.{deliver-refused, deliver-passed, deliver-short, deliver-fits}
 use Rattle.cores.specs.Cores.{core}
 use Rattle.cores.proofs.Cores.{core-sub}

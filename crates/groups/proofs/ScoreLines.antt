@@ -12,7 +12,7 @@ use Rattle.sets.specs.Sets.{full}
 use Rattle.sets.specs.Members.{capacity}
 use Rattle.records.specs.Limits.{maxTicks}
 use Rattle.records.proofs.WithinLimits.{limits-of}
-use Rattle.log.specs.Days.{LentDay}
+use Rattle.days.specs.Days.{LentDay}
 use Rattle.cores.specs.Orders.{highestOrder}
 use Rattle.cores.specs.Rows.{graph}
 use Rattle.cuts.specs.Sums.{tableScore}

@@ -20,7 +20,7 @@ use Rattle.sets.specs.Tables.{tabulate}
 use Rattle.sets.proofs.Bools.{or-left, or-right, or-of, all-in, all-of}
 use Rattle.sets.proofs.Sets.{in-test, has-test, in-intersection, of-intersection-left, of-intersection-right, in-set, of-set, of-set-lt, in-lt, in-full, of-full, ext}
 use Rattle.sets.proofs.Tables.{tabulate-length, tabulate-at, tabulate-same, piecewise-in, piecewise-out}
-use Rattle.log.specs.Days.{neighbours, adjacent, IsDay}
+use Rattle.days.specs.Days.{neighbours, adjacent, IsDay}
 use Rattle.cores.specs.Graphs.{FewerPairs}
 use Rattle.groups.specs.Spans.{throughout, spanNeighbours, spanRows}
 use Rattle.groups.specs.Steps.{tickOf, tickRows, narrowed}

@@ -14,9 +14,9 @@ use Rattle.sets.proofs.Sets.{sub-refl}
 use Rattle.sets.proofs.Tables.{tabulate-length, tabulate-at, tabulate-same}
 use Rattle.records.specs.Limits.{wordsFor}
 use Rattle.records.specs.Outcomes.{Outcome, refused, success, andThen}
+use Rattle.days.proofs.Days.{neighbours-append}
+use Rattle.days.proofs.Checks.{check-day, check-rest}
 use Rattle.log.specs.Buffers.{deliver}
-use Rattle.log.proofs.Days.{neighbours-append}
-use Rattle.log.proofs.Checks.{check-day, check-rest}
 use Rattle.log.proofs.Delivering.{deliver-short, deliver-fits}
 use Rattle.cores.specs.Orders.{coreNumber}
 use Rattle.cores.proofs.Orders.{member-pos, number-by-sets, number-same}

@@ -14,13 +14,13 @@ use Rattle.sets.proofs.Bools.{all-same}
 use Rattle.sets.proofs.Concat.{concat-same}
 use Rattle.records.specs.Limits.{wordsFor}
 use Rattle.records.specs.Outcomes.{Outcome, success, andThen}
+use Rattle.days.proofs.Days.{neighbours-append}
+use Rattle.days.proofs.Checks.{check-rest}
 use Rattle.log.specs.Buffers.{Delivered, deliver}
-use Rattle.log.proofs.Days.{neighbours-append}
-use Rattle.log.proofs.Checks.{check-rest}
-use Rattle.cuts.specs.Cuttings.{Cutting, IsBest, total}
-use Rattle.cuts.proofs.Cuttings.{Cuts, one, more, cuts-fit, to-cuts, total-same}
 use Rattle.cores.proofs.Cores.{core-same}
 use Rattle.cores.proofs.Orders.{score-same}
+use Rattle.cuts.specs.Cuttings.{Cutting, IsBest, total}
+use Rattle.cuts.proofs.Cuttings.{Cuts, one, more, cuts-fit, to-cuts, total-same}
 use Rattle.groups.specs.Spans.{isSpan}
 use Rattle.groups.specs.SpanCores.{SpanCore, coreOn, hasCore}
 use Rattle.groups.specs.Reports.{asLarge, same, isMaximal, isGroup, groupsOn, groupsFrom, groupsOf}

@@ -6,8 +6,8 @@ use Rattle.sets.specs.Bools.{isnt}
 use Rattle.sets.specs.Sets.{full}
 use Rattle.sets.specs.Tables.{tabulate}
 use Rattle.records.specs.Outcomes.{Outcome, success, refuseIf, andThen}
+use Rattle.days.specs.Calls.{checkOf}
 use Rattle.log.specs.Buffers.{Delivered, deliver}
-use Rattle.log.specs.Calls.{checkOf}
 use Rattle.cores.specs.Orders.{coreNumber}
 use Rattle.cuts.specs.Cuttings.{IsBest}
 use Rattle.groups.specs.Spans.{isSpan, spanNeighbours}

@@ -5,7 +5,7 @@ use Prim.Native.Nat.{ℕ, _≤_, _<_}
 use lib.ListN.{length, take, drop}
 use Rattle.sets.specs.Sets.{full}
 use Rattle.records.specs.Outcomes.{Outcome, refused, success}
-use Rattle.log.specs.Days.{LentDay}
+use Rattle.days.specs.Days.{LentDay}
 use Rattle.log.specs.Buffers.{Delivered}
 use Rattle.groups.specs.SpanCores.{SpanCore}
 use Rattle.groups.specs.Encoding.{reportBytes, reportRecords}

@@ -6,7 +6,7 @@ use lib.ListN.{length, getD, take}
 use Rattle.sets.specs.Sets.{full}
 use Rattle.sets.specs.Members.{capacity}
 use Rattle.records.specs.Limits.{maxTicks}
-use Rattle.log.specs.Days.{LentDay}
+use Rattle.days.specs.Days.{LentDay}
 use Rattle.cores.specs.Orders.{highestOrder}
 use Rattle.cores.specs.Rows.{graph}
 use Rattle.cuts.specs.Cuttings.{Cutting}

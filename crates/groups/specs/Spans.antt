@@ -7,7 +7,7 @@ use Rattle.sets.specs.Bools.{_and_, _or_, all}
 use Rattle.sets.specs.Sets.{setOf, full}
 use Rattle.sets.specs.Members.{capacity}
 use Rattle.sets.specs.Tables.{tabulate, piecewise}
-use Rattle.log.specs.Days.{LentDay, adjacent}
+use Rattle.days.specs.Days.{LentDay, adjacent}
 
 -- first and last are a span of a day of T ticks
 unfoldable pub isSpan : ℕ → ℕ → ℕ → Bool

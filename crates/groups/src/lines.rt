@@ -4,7 +4,7 @@ ghost use Prim.Native.Nat.{_+_, _*_, _≤_, _<_, max};
 ghost use lib.ListN.{length};
 ghost use Rattle.sets.specs.Members.{capacity};
 ghost use Rattle.records.specs.Limits.{maxTicks};
-ghost use Rattle.log.specs.Days.{LentDay};
+ghost use Rattle.days.specs.Days.{LentDay};
 ghost use Rattle.log.specs.Buffers.{overwrite};
 ghost use Rattle.groups.specs.Lines.{LineSizes, LineRows, LineCores};
 use crate::spans::narrow;

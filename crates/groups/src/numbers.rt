@@ -1,8 +1,8 @@
 // The call that gives the core numbers of a span.
 ghost use mathlib.Core.Path.{_≡_};
 ghost use Rattle.records.specs.Outcomes.{success};
+ghost use Rattle.days.specs.Calls.{checkOf};
 ghost use Rattle.log.specs.Buffers.{deliver};
-ghost use Rattle.log.specs.Calls.{checkOf};
 ghost use Rattle.groups.specs.Refusals.{writtenOutcome};
 ghost use Rattle.groups.specs.Calls.{spanJudged, coreNumbersOf};
 use crate::answer::Written;

@@ -5,7 +5,7 @@ ghost use Prim.Native.Nat.{_+_, _*_, _≤_, _<_};
 ghost use lib.ListN.{length};
 ghost use Rattle.sets.specs.Members.{members};
 ghost use Rattle.records.specs.Outcomes.{success};
-ghost use Rattle.log.specs.Calls.{checkOf};
+ghost use Rattle.days.specs.Calls.{checkOf};
 ghost use Rattle.groups.specs.Refusals.{writtenOutcome};
 ghost use Rattle.groups.specs.Spans.{SpanOfDay};
 ghost use Rattle.groups.specs.Plans.{partOn};

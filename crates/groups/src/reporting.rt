@@ -7,7 +7,7 @@ ghost use lib.ListN.{length};
 ghost use Rattle.sets.specs.Tables.{keepIf};
 ghost use Rattle.records.specs.Limits.{maxTicks};
 ghost use Rattle.records.specs.Outcomes.{success};
-ghost use Rattle.log.specs.Days.{LentDay};
+ghost use Rattle.days.specs.Days.{LentDay};
 ghost use Rattle.log.specs.Buffers.{deliver};
 ghost use Rattle.groups.specs.Refusals.{writtenOutcome};
 ghost use Rattle.groups.specs.Appending.{AppendsCores, lineList, LineRoom, EncodesReport};

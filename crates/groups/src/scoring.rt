@@ -4,7 +4,7 @@ ghost use Prim.Native.Nat.{_*_};
 ghost use lib.ListN.{length};
 ghost use Rattle.sets.specs.Members.{members};
 ghost use Rattle.records.specs.Limits.{maxTicks};
-ghost use Rattle.log.specs.Days.{LentDay};
+ghost use Rattle.days.specs.Days.{LentDay};
 ghost use Rattle.groups.specs.Scoring.{ScoreSizes, LineScores, Scores};
 use crate::lines::fill_line;
 use crate::spans::tick_rows;

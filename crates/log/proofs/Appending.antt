@@ -23,8 +23,8 @@ use Rattle.records.specs.Limits.{maxContacts, maxLogBytes}
 use Rattle.records.specs.Records.{encode, encodeAll}
 use Rattle.records.specs.Logs.{logRecords}
 use Rattle.records.proofs.Records.{length-encode, encode-append}
+use Rattle.days.specs.Days.{neighbours, adjacent}
 use Rattle.log.specs.Buffers.{place}
-use Rattle.log.specs.Days.{neighbours, adjacent}
 use Rattle.log.specs.Tidy.{runStart, runEnds, runAt, runsOf, tidyContacts, tidyLog}
 use Rattle.log.specs.Writing.{Appends, offsetAfter, unitedOf, startAfter, Encodes}
 use Rattle.log.proofs.Delivering.{take-place}

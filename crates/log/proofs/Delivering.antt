@@ -11,8 +11,8 @@ use borrow.Author.Tests.{lt-ltb, le-ltb, le-leb, lt-leb}
 use Rattle.records.specs.Limits.{maxContacts, withinLimits, wordsFor}
 use Rattle.records.specs.Outcomes.{Outcome, refused, success, refuseIf, andThen}
 use Rattle.records.proofs.WithinLimits.{limits-of}
+use Rattle.days.specs.Days.{adjacent}
 use Rattle.log.specs.Buffers.{deliver, overwrite, place}
-use Rattle.log.specs.Days.{adjacent}
 use Rattle.log.specs.Tidy.{tidyContacts, tidyLog}
 use Rattle.log.specs.Writing.{Writable, Encodes}
 use Rattle.log.specs.Calls.{tidyBytes}

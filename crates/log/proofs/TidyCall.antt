@@ -14,12 +14,13 @@ use Rattle.records.specs.Meaning.{badgesOf, ticksOf, inContact}
 use Rattle.records.specs.Verdicts.{Values, valuesOf}
 use Rattle.records.proofs.Outcomes.{refused-success, success-same, refused-same}
 use Rattle.records.proofs.Accepting.{accepted-of}
-use Rattle.log.specs.Days.{adjacent, dayWords, dayOf}
+use Rattle.days.specs.Days.{adjacent, dayWords, dayOf}
+use Rattle.days.specs.Calls.{Read, readOf, checkOf}
+use Rattle.days.proofs.Days.{day-length, neighbours-append, in-day, of-day}
+use Rattle.days.proofs.ReadCall.{read-refused, read-few, read-success, Case, log-refused, words-few, words-enough, case-of}
 use Rattle.log.specs.Tidy.{tidyLog}
 use Rattle.log.specs.Buffers.{deliver}
-use Rattle.log.specs.Calls.{Read, readOf, checkOf, tidyBytes, writeOf, tidyBefore9, tidyOf}
-use Rattle.log.proofs.Days.{day-length, neighbours-append, in-day, of-day}
-use Rattle.log.proofs.ReadCall.{read-refused, read-few, read-success, Case, log-refused, words-few, words-enough, case-of}
+use Rattle.log.specs.Calls.{tidyBytes, writeOf, tidyBefore9, tidyOf}
 use Rattle.log.proofs.TidyForm.{tidy-same}
 use Rattle.log.proofs.Delivering.{deliver-refused, deliver-passed}
 

@@ -1,10 +1,5 @@
--- Days in words, tidy logs, and the calls: what a reader has to believe. Laws are in proofs/.
-pub mod Days
+-- Tidy logs, buffers, and the calls: what a reader has to believe. Laws are in proofs/. (`Writing` is cited by private functions alone.)
 pub mod Tidy
-pub mod Filling
 pub mod Buffers
 pub mod Writing
 pub mod Calls
-pub mod Reading
-pub mod Tidying
-pub mod WrittenDays

@@ -8,7 +8,7 @@ use Rattle.sets.specs.Sets.{union}
 use Rattle.records.specs.declared.record.Record.{Record}
 use Rattle.records.specs.Limits.{maxBadges, maxTicks, maxContacts, maxLogBytes, wordsFor}
 use Rattle.records.specs.Records.{encodeAll}
-use Rattle.log.specs.Days.{neighbours, adjacent}
+use Rattle.days.specs.Days.{neighbours, adjacent}
 use Rattle.log.specs.Tidy.{tidyContacts, tidyLog}
 
 -- words that a log can be made of: n and T are no more than their limits, and there are words enough

@@ -3,19 +3,16 @@
 // `read` takes a log into day words, `write` takes day words to their tidy log, and `tidy` takes a log to its tidy log; `check_words` is
 // the check that every call on words begins with, and `deliver` puts an answer into the buffer that is lent, `put` and `put_record` bytes and
 // records into memory of one's own. Nothing here knows of groups.
-mod checking;
-mod day;
 mod encoding;
 mod pairs;
-mod reading;
 mod tidying;
 mod writing;
 
-pub use checking::Checked;
-pub use checking::check_words;
+pub use days::Checked;
+pub use days::check_words;
+pub use days::read;
 pub use encoding::put;
 pub use encoding::put_record;
-pub use reading::read;
 pub use records::Record;
 pub use records::Refusal;
 pub use records::Verdict;

@@ -8,7 +8,7 @@ ghost use Rattle.sets.specs.Bools.{_and_, isnt};
 ghost use Rattle.sets.specs.Members.{members};
 ghost use Rattle.sets.specs.Tables.{keepIf};
 ghost use Rattle.records.specs.Limits.{maxBadges, maxTicks, wordsFor};
-ghost use Rattle.log.specs.Days.{adjacent};
+ghost use Rattle.days.specs.Days.{adjacent};
 ghost use Rattle.log.specs.Tidy.{runsOf, rowRuns};
 ghost use Rattle.log.specs.Writing.{Writable, Roomy, Appends, unitedOf, startAfter};
 use crate::encoding::append_contact;

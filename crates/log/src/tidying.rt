@@ -1,9 +1,9 @@
 // The call that takes a log to its tidy log.
 ghost use mathlib.Core.Path.{_≡_};
 ghost use Rattle.log.specs.Calls.{tidyOf, writtenOutcome};
-use crate::reading::read;
 use crate::writing::Written;
 use crate::writing::deliver_log;
+use days::read;
 use records::Refusal;
 use records::Verdict;
 

@@ -2,8 +2,8 @@
 use mathlib.Core.Path.{_≡_, sym, ap, _∙_}
 use borrow.Author.Needs.{needs}
 use Rattle.records.specs.Outcomes.{success}
+use Rattle.days.specs.Calls.{checkOf, checkedOutcome}
 use Rattle.log.specs.Buffers.{Delivered}
-use Rattle.log.specs.Calls.{checkOf, checkedOutcome}
 use Rattle.groups.proofs.NumbersCall.{numbers-refused, numbers-passed}
 use Rattle.groups.proofs.numbers.core_numbers.Statement.{statement}
 use Rattle.groups.proofs.numbers.core_numbers.Tie as tie

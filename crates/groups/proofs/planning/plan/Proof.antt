@@ -3,7 +3,7 @@ use mathlib.Core.Path.{_≡_, sym, ap, _∙_}
 use borrow.Author.Needs.{needs}
 use Rattle.sets.specs.Members.{members}
 use Rattle.records.specs.Outcomes.{success}
-use Rattle.log.specs.Calls.{checkOf, checkedOutcome}
+use Rattle.days.specs.Calls.{checkOf, checkedOutcome}
 use Rattle.groups.proofs.PlanCall.{plan-refused, planned-refused}
 use Rattle.groups.proofs.PlanTheorems.{plan-shown}
 use Rattle.groups.proofs.planning.plan.Statement.{statement}

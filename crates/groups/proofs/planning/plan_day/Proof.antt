@@ -13,9 +13,9 @@ use Rattle.sets.specs.Members.{capacity, members}
 use Rattle.records.specs.Limits.{maxTicks}
 use Rattle.records.specs.Outcomes.{Outcome, success}
 use Rattle.records.proofs.WithinLimits.{limits-of}
+use Rattle.days.specs.Days.{LentDay}
+use Rattle.days.proofs.Checks.{check-passed}
 use Rattle.log.specs.Buffers.{Delivered, deliver}
-use Rattle.log.specs.Days.{LentDay}
-use Rattle.log.proofs.Checks.{check-passed}
 use Rattle.cuts.specs.Cuttings.{IsBest}
 use Rattle.groups.specs.Plans.{scoreOn}
 use Rattle.groups.proofs.PlanCall.{judged-query, judged-parts, judged-plan, plan-passed, planned-judged, table-best}

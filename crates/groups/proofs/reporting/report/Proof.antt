@@ -2,9 +2,9 @@
 use mathlib.Core.Path.{_≡_, sym, ap, _∙_}
 use borrow.Author.Needs.{needs}
 use Rattle.records.specs.Outcomes.{success}
+use Rattle.days.specs.Calls.{checkOf, checkedOutcome}
+use Rattle.days.proofs.Checks.{check-passed}
 use Rattle.log.specs.Buffers.{Delivered}
-use Rattle.log.specs.Calls.{checkOf, checkedOutcome}
-use Rattle.log.proofs.Checks.{check-passed}
 use Rattle.groups.proofs.ReportTheorems.{report-refused, report-passed, reported}
 use Rattle.groups.proofs.reporting.report.Statement.{statement}
 use Rattle.groups.proofs.reporting.report.Tie as tie

@@ -11,7 +11,7 @@ use borrow.Author.Tests.{not-true}
 use Rattle.sets.specs.Bools.{_and_}
 use Rattle.sets.specs.Sets.{has}
 use Rattle.sets.specs.Tables.{concatBelow}
-use Rattle.log.specs.Days.{adjacent}
+use Rattle.days.specs.Days.{adjacent}
 use Rattle.log.specs.Tidy.{runStart, runAt, runsOf}
 use Rattle.log.specs.Writing.{Appends, unitedOf}
 use Rattle.log.proofs.Runs.{start-le}

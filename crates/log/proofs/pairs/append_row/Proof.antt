@@ -5,7 +5,7 @@ use native.Mathlib.Omega.{arith}
 use lib.ListN.{length}
 use borrow.Author.Needs.{needs}
 use Rattle.sets.specs.Tables.{concatBelow}
-use Rattle.log.specs.Days.{adjacent}
+use Rattle.days.specs.Days.{adjacent}
 use Rattle.log.specs.Tidy.{rowRuns}
 use Rattle.log.specs.Writing.{Appends}
 use Rattle.log.proofs.Appending.{appends-none, largerRuns, row-none, row-more}

@@ -6,8 +6,8 @@ use borrow.Author.Tests.{lt-ltb, le-ltb}
 use borrow.Author.Needs.{needs}
 use Rattle.sets.specs.Bools.{_and_}
 use Rattle.sets.specs.Sets.{has}
-use Rattle.log.specs.Days.{neighbours, adjacent}
-use Rattle.log.proofs.Days.{tick-fits}
+use Rattle.days.specs.Days.{neighbours, adjacent}
+use Rattle.days.proofs.Days.{tick-fits}
 use Rattle.log.proofs.pairs.meets.Statement.{statement}
 use Rattle.log.proofs.pairs.meets.Tie as tie
 

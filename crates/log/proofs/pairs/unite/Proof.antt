@@ -5,8 +5,8 @@ use native.Mathlib.Omega.{arith}
 use lib.Bits.{bitOr}
 use lib.ListN.{getD}
 use borrow.Author.Needs.{needs}
+use Rattle.days.proofs.Days.{tick-fits}
 use Rattle.log.specs.Writing.{unitedOf}
-use Rattle.log.proofs.Days.{tick-fits}
 use Rattle.log.proofs.Appending.{united-more}
 use Rattle.log.proofs.pairs.unite.Statement.{statement}
 use Rattle.log.proofs.pairs.unite.Tie as tie

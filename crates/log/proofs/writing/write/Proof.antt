@@ -2,9 +2,9 @@
 use mathlib.Core.Path.{_≡_, refl, sym, ap, _∙_}
 use borrow.Author.Needs.{needs}
 use Rattle.records.specs.Outcomes.{success}
+use Rattle.days.specs.Calls.{checkOf, checkedOutcome}
+use Rattle.days.proofs.Checks.{check-passed}
 use Rattle.log.specs.Buffers.{Delivered}
-use Rattle.log.specs.Calls.{checkOf, checkedOutcome}
-use Rattle.log.proofs.Checks.{check-passed}
 use Rattle.log.proofs.Delivering.{writable}
 use Rattle.log.proofs.TidyCall.{write-refused, write-passed}
 use Rattle.log.proofs.writing.write.Statement.{statement}

@@ -1,0 +1,87 @@
+-- Laws of the call read: its answer and the words it leaves, in the order of judging.
+use mathlib.Core.Path.{_≡_, refl, sym, ap}
+use mathlib.Core.Bool.{Bool, true, false}
+use mathlib.Core.List.{List, _++_}
+use Prim.Native.Nat.{ℕ, _≤_, _<_}
+use lib.ListN.{length, drop}
+use lib.Dec.{ltb}
+use borrow.Author.Tests.{lt-ltb, le-ltb, ltb-true, ltb-false}
+use Rattle.records.specs.declared.record.Record.{Record}
+use Rattle.records.specs.Limits.{wordsFor}
+use Rattle.records.specs.Outcomes.{Outcome, refused, success}
+use Rattle.records.specs.Judging.{judge}
+use Rattle.records.specs.Meaning.{badgesOf, ticksOf}
+use Rattle.records.specs.Verdicts.{Values, valuesOf, verdictOf}
+use Rattle.records.proofs.Outcomes.{refused-success, success-same, refused-same}
+use Rattle.records.proofs.Accepting.{accepted-of}
+use Rattle.records.proofs.WithinLimits.{limits-of, words-most}
+use Rattle.days.specs.Days.{dayOf}
+use Rattle.days.specs.Filling.{Accepts}
+use Rattle.days.specs.Calls.{Read, readJudged, readOf}
+
+abbrev pub left : Outcome Values → List ℕ → Read
+left answer words = record { answer = answer; words = words }
+
+-- the log's refusal first, then 8, and success otherwise
+pub read-refused : (log ws : List ℕ) (number offset : ℕ) → judge log ≡ refused number offset → readOf log ws ≡ left (refused number offset) ws
+unfolding readOf readJudged
+read-refused log ws number offset e = rw e
+
+module _ (log ws : List ℕ) (rs : List Record) (e : judge log ≡ success rs) where
+  pub read-few : length ws < wordsFor (badgesOf rs) (ticksOf rs) → readOf log ws ≡ left (refused 8 0) ws
+  unfolding readOf readJudged
+  read-few h = rw (e, readJudged, lt-ltb (length ws) (wordsFor (badgesOf rs) (ticksOf rs)) h)
+
+  pub read-success : wordsFor (badgesOf rs) (ticksOf rs) ≤ length ws → readOf log ws ≡ left (success (valuesOf rs)) (dayOf rs ++ drop (wordsFor (badgesOf rs) (ticksOf rs)) ws)
+  unfolding readOf readJudged
+  read-success h = rw (e, readJudged, le-ltb (length ws) (wordsFor (badgesOf rs) (ticksOf rs)) h)
+
+-- one of the three is the case
+pub data Case (log ws : List ℕ) : Type 0 where
+  log-refused : (number offset : ℕ) → judge log ≡ refused number offset → Case log ws
+  words-few : (rs : List Record) → judge log ≡ success rs → length ws < wordsFor (badgesOf rs) (ticksOf rs) → Case log ws
+  words-enough : (rs : List Record) → judge log ≡ success rs → wordsFor (badgesOf rs) (ticksOf rs) ≤ length ws → Case log ws
+
+pub case-of : (log ws : List ℕ) → Case log ws
+case-of log ws = go (judge log) refl
+  where
+    words : (rs : List Record) → judge log ≡ success rs → (b : Bool) → ltb (length ws) (wordsFor (badgesOf rs) (ticksOf rs)) ≡ b → Case log ws
+    words rs f true g = words-few rs f (ltb-true _ _ g)
+    words rs f false g = words-enough rs f (ltb-false _ _ g)
+
+    go : (o : Outcome (List Record)) → judge log ≡ o → Case log ws
+    go (refused number offset) f = log-refused number offset f
+    go (success rs) f = words rs f (ltb (length ws) (wordsFor (badgesOf rs) (ticksOf rs))) refl
+
+-- a verdict says what judging came to
+pub verdict-refused : (o : Outcome (List Record)) (number offset : ℕ) → verdictOf o ≡ refused number offset → o ≡ refused number offset
+unfolding verdictOf
+verdict-refused (refused k p) number offset e = refused-same e
+verdict-refused (success rs) number offset e = absurd (refused-success (sym e))
+
+-- an accepted log, with its values
+pub record Told (log : List ℕ) (n T m : ℕ) : Type 0 where
+  pub records : List Record
+  pub judged : judge log ≡ success records
+  pub badges : badgesOf records ≡ n
+  pub ticks : ticksOf records ≡ T
+  pub same : valuesOf records ≡ record { badges = n; ticks = T; contacts = m }
+
+pub verdict-accepted : (log : List ℕ) (n T m : ℕ) → verdictOf (judge log) ≡ success (record { badges = n; ticks = T; contacts = m }) → Told log n T m
+unfolding verdictOf valuesOf
+verdict-accepted log n T m e = go (judge log) refl e
+  where
+    go : (o : Outcome (List Record)) → judge log ≡ o → verdictOf o ≡ success (record { badges = n; ticks = T; contacts = m }) → Told log n T m
+    go (refused k p) f g = absurd (refused-success g)
+    go (success rs) f g =
+        let s = success-same g in
+        record { records = rs; judged = f; badges = ap (λ (v : Values). v .badges) s; ticks = ap (λ (v : Values). v .ticks) s; same = s }
+
+-- what filling asks
+pub accepts : {log : List ℕ} {n T m : ℕ} → Told log n T m → Accepts log n T
+accepts t = record { records = t .records; accepted = t .judged; badges = t .badges; ticks = t .ticks }
+
+-- the words of an accepted log are no more than those of the largest day
+pub accepted-words : {log : List ℕ} {n T m : ℕ} → Told log n T m → wordsFor n T ≤ 6144
+unfolding judge
+accepted-words {log} {n} {T} t = rw (← t .badges, ← t .ticks) (words-most _ _ (limits-of (accepted-of 0 log (t .records) (t .judged) .limits)))

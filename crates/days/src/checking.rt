@@ -1,0 +1,64 @@
+// The check of words that every call on words begins with.
+ghost use mathlib.Core.Path.{_≡_};
+ghost use Prim.Native.Nat.{_*_, _≤_};
+ghost use lib.ListN.{length};
+ghost use Rattle.records.specs.Limits.{maxBadges, wordsFor};
+ghost use Rattle.days.specs.Days.{isDay};
+ghost use Rattle.days.specs.Calls.{checkOf, checkedOutcome};
+use records::Refusal;
+use records::within_limits;
+use sets::BadgeSet;
+
+// Whether words are those of a day of n badges and T ticks.
+pub enum Checked {
+    Day,
+    Refused(Refusal),
+}
+
+// Whether the words are a day: the search walks the set bits tick by tick, badge by badge, and stops at the first pair that breaks it,
+// a bit that is the badge's own, is n or more, or has no mirror.
+fn is_day(words: &[u64], n: usize, ticks: usize) -> bool
+    requires { ⌜ (n ≤ maxBadges) × (wordsFor n ticks ≤ length (now words)) ⌝ }
+    ensures { λ r. ⌜ r ≡ isDay n ticks (now (words .entry)) ⌝ }
+{
+    let mut good = true;
+    'scan: for t in 0..ticks {
+        let base = t * n;
+        for u in 0..n {
+            let mut unseen = BadgeSet::from_word(words[base + u]);
+            while !unseen.is_empty() {
+                let v = unseen.smallest();
+                if n <= v {
+                    good = false;
+                    break 'scan;
+                }
+                if v == u {
+                    good = false;
+                    break 'scan;
+                }
+                if !BadgeSet::from_word(words[base + v]).has(u) {
+                    good = false;
+                    break 'scan;
+                }
+                unseen = unseen.without(v);
+            }
+        }
+    }
+    good
+}
+
+// The words, judged by 10, 8 and 11 in that order. Words after the first n×T are not read.
+pub fn check_words(words: &[u64], badges: usize, ticks: usize) -> Checked
+    ensures { λ r. ⌜ checkedOutcome r ≡ checkOf badges ticks (now (words .entry)) ⌝ }
+{
+    if !within_limits(badges, ticks) {
+        return Checked::Refused(Refusal::SizeOutOfLimits);
+    }
+    if words.len() < ticks * badges {
+        return Checked::Refused(Refusal::TooFewWords);
+    }
+    if !is_day(words, badges, ticks) {
+        return Checked::Refused(Refusal::NotADay);
+    }
+    Checked::Day
+}

@@ -1,0 +1,82 @@
+// Filling the words of a day from an accepted log.
+ghost use mathlib.Core.Path.{_≡_};
+ghost use mathlib.Core.List.{_++_, List};
+ghost use Prim.Native.Nat.{_+_, _*_, _<_, _≤_};
+ghost use lib.ListN.{length, drop, replicate};
+ghost use Rattle.records.specs.Limits.{maxBadges, wordsFor};
+ghost use Rattle.records.specs.Outcomes.{success};
+ghost use Rattle.records.specs.Judging.{judge};
+ghost use Rattle.days.specs.Days.{dayOf};
+ghost use Rattle.days.specs.Filling.{Accepts, Fitting, marked, Marks};
+use records::Decoded;
+use records::Record;
+use records::decode;
+use records::kind_of;
+use records::size_of;
+use sets::BadgeSet;
+
+// The first count words are zero.
+fn clear(words: &mut [u64], count: usize)
+    requires { ⌜ count ≤ length (now words) ⌝ }
+    ensures { λ _. ⌜ now (words .exit) ≡ replicate count 0 ++ drop count (now (words .entry)) ⌝ }
+{
+    for i in 0..count {
+        words[i] = 0;
+    }
+}
+
+// Badges a and b are in contact in tick t.
+fn mark_pair(words: &mut [u64], n: usize, t: usize, a: usize, b: usize)
+    requires { ⌜ (n ≤ maxBadges) × (a < n) × (b < n) × (t * n + n ≤ length (now words)) ⌝ }
+    ensures { λ _. ⌜ now (words .exit) ≡ marked n (marked n (now (words .entry)) t a b) t b a ⌝ }
+{
+    let i = t * n + a;
+    let j = t * n + b;
+    words[i] = BadgeSet::from_word(words[i]).with(b).to_word();
+    words[j] = BadgeSet::from_word(words[j]).with(a).to_word();
+}
+
+// Badges a and b are in contact in the ticks from first to last.
+fn mark_contact(words: &mut [u64], n: usize, a: u8, b: u8, first: u8, last: u8)
+    requires { ⌜ Fitting n (length (now words)) (Record.Contact a b first last) ⌝ }
+    ensures { λ _. ⌜ Marks n (Record.Contact a b first last) (now (words .entry)) (now (words .exit)) ⌝ }
+{
+    let start = first as usize;
+    let stop = last as usize + 1;
+    for t in start..stop {
+        mark_pair(words, n, t, a as usize, b as usize);
+    }
+}
+
+// Marks what a record covers: only a contact covers anything.
+fn mark_record(words: &mut [u64], n: usize, record: Record)
+    requires { ⌜ Fitting n (length (now words)) «record» ⌝ }
+    ensures { λ _. ⌜ Marks n «record» (now (words .entry)) (now (words .exit)) ⌝ }
+{
+    match record {
+        Record::Contact { a, b, first, last } => {
+            mark_contact(words, n, a, b, first, last);
+        }
+        Record::Header {
+            badges: _,
+            ticks: _,
+        } => {}
+        Record::End { count: _ } => {}
+    }
+}
+
+// Sets the first n×T words to the day of an accepted log.
+pub(crate) fn fill(log: &[u8], badges: usize, ticks: usize, words: &mut [u64])
+    requires { ⌜ Accepts (now log) badges ticks × (wordsFor badges ticks ≤ length (now words)) ⌝ }
+    ensures { λ _. ⌜ ((rs : List Record) → judge (now (log .entry)) ≡ success rs → now (words .exit) ≡ dayOf rs ++ drop (wordsFor badges ticks) (now (words .entry))) ⌝ }
+{
+    clear(words, ticks * badges);
+    let mut at: usize = 0;
+    while at < log.len() {
+        let Decoded::Whole(record) = decode(&log[at..]) else {
+            return;
+        };
+        mark_record(words, badges, record);
+        at = at + size_of(kind_of(record));
+    }
+}

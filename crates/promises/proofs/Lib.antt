@@ -1,0 +1,11 @@
+-- The promises proved of the calls, and substitutes refuted. No other crate cites them.
+
+-- reading, tidying and writing
+pub mod ReadTheorems
+pub mod TidyCount
+pub mod TidyTheorems
+pub mod WriteTheorems
+-- substitutes for reading and tidying
+pub mod SmallLogs
+pub mod ReadSubstitutes
+pub mod TidySubstitutes

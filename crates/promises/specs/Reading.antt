@@ -1,0 +1,30 @@
+-- What reading promises, over any call that takes a log and lent words and leaves an answer and words.
+use mathlib.Core.List.{List}
+use mathlib.Core.Logic.{_↔_}
+use mathlib.Core.Path.{_≡_}
+use Prim.Native.Nat.{ℕ, _≤_, _<_}
+use lib.ListN.{length, drop}
+use Rattle.sets.specs.Sets.{In}
+use Rattle.records.specs.declared.record.Record.{Record}
+use Rattle.records.specs.Limits.{wordsFor}
+use Rattle.records.specs.Outcomes.{success}
+use Rattle.records.specs.Logs.{IsLog, Met}
+use Rattle.days.specs.Days.{neighbours}
+use Rattle.days.specs.Calls.{Read}
+
+-- Words that hold the day of a log's contacts: bit v of word t×n+u is set exactly when u and v are in contact in tick t; the words
+-- after the first n×T are as they were lent.
+pub record HoldsDay (n T : ℕ) (cts : List Record) (lent words : List ℕ) : Type 0 where
+  pub marks : (t u v : ℕ) → t < T → u < n → In (neighbours n words t u) v ↔ Met cts t u v
+  pub keeps : drop (wordsFor n T) words ≡ drop (wordsFor n T) lent
+  pub long : length words ≡ length lent
+
+-- What a call leaves that has read the log of these contacts into words that were lent: it answers the log's n, T and number of contact
+-- records, and the words hold the day.
+pub record HasRead (n T : ℕ) (cts : List Record) (lent : List ℕ) (left : Read) : Type 0 where
+  pub answers : left .answer ≡ success (record { badges = n; ticks = T; contacts = length cts })
+  pub day : HoldsDay n T cts lent (left .words)
+
+-- a call that reads every log, lent n×T words or more
+abbrev pub Reads : (List ℕ → List ℕ → Read) → Type 0
+Reads call = (log lent : List ℕ) (n T : ℕ) (cts : List Record) → IsLog log n T cts → wordsFor n T ≤ length lent → HasRead n T cts lent (call log lent)
