@@ -11,29 +11,13 @@ use lib.ListN.{length, getD, take, length-append}
 use lib.Seq.{length-paste}
 use borrow.Author.Tests.{le-leb, leb-true}
 use Rattle.sets.specs.Tables.{concatBelow, keepIf}
-use Rattle.sets.proofs.Bytes.{length-little-endian}
 use Rattle.sets.proofs.Concat.{concat-nil, keep-nil, keep-all}
 use Rattle.log.specs.Buffers.{place}
 use Rattle.log.proofs.Delivering.{overwrite-paste, place-fits, take-place}
-use Rattle.groups.specs.SpanCores.{SpanCore}
-use Rattle.groups.specs.Encoding.{encodeCore, encodeCores}
+use Rattle.spans.specs.SpanCores.{SpanCore}
+use Rattle.spans.specs.Encoding.{encodeCore, encodeCores}
+use Rattle.spans.proofs.Encoding.{encode-core-length, encode-cores-append}
 use Rattle.groups.specs.Appending.{AppendsCores, lineList}
-
--- a record has 13 bytes
-pub encode-core-length : (a b : ℕ) (c : SpanCore) → length (encodeCore a b c) ≡ 13
-unfolding encodeCore
-encode-core-length a b c = omega (arith, length-little-endian 8 (c .members))
-
--- records one after the other
-pub encode-cores-length : (a b : ℕ) (cs : List SpanCore) → length (encodeCores a b cs) ≡ 13 * length cs
-unfolding encodeCores
-encode-cores-length a b [] = refl
-encode-cores-length a b (c ∷ cs) = omega (arith, length-append (encodeCore a b c) (encodeCores a b cs), encode-core-length a b c, encode-cores-length a b cs)
-
-pub encode-cores-append : (a b : ℕ) (xs ys : List SpanCore) → encodeCores a b (xs ++ ys) ≡ encodeCores a b xs ++ encodeCores a b ys
-unfolding encodeCores
-encode-cores-append a b [] ys = refl
-encode-cores-append a b (x ∷ xs) ys = rw (encode-cores-append a b xs ys, append-assoc)
 
 module _ {a b header : ℕ} where
   -- nothing is appended

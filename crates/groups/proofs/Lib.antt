@@ -1,31 +1,20 @@
--- Laws of the definitions in specs/, from the bottom up. Other crates cite Theorems, ReportTheorems and PlanTheorems.
+-- Laws of the definitions in specs/, from the bottom up. Other crates cite NumbersCall and PlanCall.
 
--- spans: their rows, and the loops that narrow them, fill a table with them and find cores in it
-pub mod SpanRows
+-- the rows of spans, and the loops that narrow them, fill a table with them and find cores in it
+pub mod TickRows
 pub mod Narrowing
 pub mod LineLoops
 -- records in bytes
 pub mod Appended
-pub mod Decoding
 -- core numbers
 pub mod NumbersCall
-pub mod OrderSets
-pub mod Theorems
--- the report: maximal cores, line by line, in bytes, and the group statement
-pub mod Maximal
+-- the report: line by line, in bytes, and as a whole
 pub mod LineLaws
 pub mod ReportBytes
-pub mod GroupLists
 pub mod ReportTheorems
--- the plan: scores, parts, in bytes, and the plan statement
+-- the plan: scores, parts, in bytes, and as a whole
 pub mod ScoreLines
-pub mod PlanParts
+pub mod PartFound
 pub mod PlanBytes
 pub mod PlanCall
 pub mod PlanTheorems
--- words after the day; worked examples; substitutes
-pub mod WordsAfter
-pub mod Examples
-pub mod NumberSubstitutes
-pub mod ReportSubstitutes
-pub mod PlanSubstitutes

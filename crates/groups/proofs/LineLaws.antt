@@ -18,14 +18,15 @@ use Rattle.records.specs.Limits.{maxTicks}
 use Rattle.cores.specs.Orders.{highestOrder, highestMembers}
 use Rattle.cores.specs.Rows.{graph}
 use Rattle.cores.proofs.Orders.{score-same, highest-same}
-use Rattle.groups.specs.Spans.{spanNeighbours, spanRows}
-use Rattle.groups.specs.SpanCores.{SpanCore, topOn}
-use Rattle.groups.specs.Plans.{scoreOn}
-use Rattle.groups.specs.Reports.{groupsOn, groupsFrom}
-use Rattle.groups.specs.Lines.{LineRows, LineCores, topBefore, topAfter, groupMembers, OrdersBefore, LineGroups}
+use Rattle.spans.specs.Spans.{spanNeighbours, spanRows}
+use Rattle.spans.specs.SpanCores.{SpanCore, topOn}
+use Rattle.spans.specs.Plans.{scoreOn}
+use Rattle.spans.specs.Reports.{groupsOn, groupsFrom}
+use Rattle.spans.specs.LongerSpans.{topBefore, topAfter, groupMembers}
+use Rattle.spans.proofs.Maximal.{score-top, before-none, before-more, top-falls, after-yes, after-no, groups-on}
+use Rattle.groups.specs.Lines.{LineRows, LineCores, OrdersBefore, LineGroups}
 use Rattle.groups.specs.Appending.{lineList}
 use Rattle.groups.proofs.NumbersCall.{rows-fewer, rows-more}
-use Rattle.groups.proofs.Maximal.{score-top, before-none, before-more, top-falls, after-yes, after-no, groups-on}
 
 -- the highest core of a span's rows is that of the span
 module _ (n : ℕ) (ws : List ℕ) (first last : ℕ) (w : n ≤ capacity) {rows : List ℕ} (e : rows ≡ spanRows n ws first last) (above : ℕ) where

@@ -20,10 +20,10 @@ use Rattle.log.specs.Buffers.{overwrite}
 use Rattle.log.proofs.Delivering.{overwrite-paste}
 use Rattle.cores.specs.Orders.{highestOrder, highestMembers}
 use Rattle.cores.specs.Rows.{graph}
-use Rattle.groups.specs.Spans.{SpanOfDay, spanRows}
+use Rattle.spans.specs.Spans.{SpanOfDay, spanRows}
+use Rattle.spans.proofs.SpanRows.{span-length}
 use Rattle.groups.specs.Steps.{tickRows, Narrows}
 use Rattle.groups.specs.Lines.{rowsAt, LineRows, LineSizes, LineCores}
-use Rattle.groups.proofs.SpanRows.{span-length}
 use Rattle.groups.proofs.Narrowing.{Going, going-start, next-inside, going-next}
 
 -- a part of a list that ends before another list begins

@@ -11,9 +11,9 @@ use Rattle.sets.specs.Members.{capacity}
 use Rattle.sets.proofs.Tables.{front, front-done}
 use Rattle.records.proofs.WithinLimits.{limits-of}
 use Rattle.days.proofs.Days.{tick-fits}
-use Rattle.groups.specs.Spans.{SpanOfDay, spanRows}
+use Rattle.spans.specs.Spans.{SpanOfDay, spanRows}
 use Rattle.groups.specs.Steps.{tickOf, tickRows, narrowed, Narrows}
-use Rattle.groups.proofs.SpanRows.{intersection-none, tick-span, narrow-span}
+use Rattle.groups.proofs.TickRows.{intersection-none, tick-span, narrow-span}
 
 -- filled as far as there are words, the rows are those of the tick, and those that the tick narrows
 past : (tick : List ℕ) {m u : ℕ} → u ≡ min m (length tick) → (k : ℕ) → u ≤ k → k < m → getD tick k 0 ≡ 0

@@ -1,16 +1,14 @@
 -- Laws of the call core numbers: what it answers and leaves, in the order of judging, and that the numbers found from a span's rows are those
 -- of the span.
 use mathlib.Core.Path.{_≡_, ap, _∙_}
-use mathlib.Core.Bool.{true}
 use mathlib.Core.List.{List}
 use Prim.Native.Nat.{ℕ, _≤_, _<_, min}
 use native.Mathlib.Omega.{arith}
 use lib.ListN.{take}
-use borrow.Author.Tests.{le-leb, lt-ltb, leb-true, ltb-true}
 use Rattle.sets.specs.Bools.{isnt}
 use Rattle.sets.specs.Sets.{full}
 use Rattle.sets.specs.Members.{capacity}
-use Rattle.sets.proofs.Bools.{and-in, and-left, and-right, to-false}
+use Rattle.sets.proofs.Bools.{to-false}
 use Rattle.sets.proofs.Sets.{of-full}
 use Rattle.sets.proofs.Tables.{tabulate-take, tabulate-same}
 use Rattle.records.specs.Outcomes.{refused, success, refuseIf}
@@ -21,18 +19,9 @@ use Rattle.log.proofs.Delivering.{deliver-refused, deliver-passed}
 use Rattle.cores.specs.Graphs.{FewerPairs}
 use Rattle.cores.specs.Rows.{graph, coreNumbers}
 use Rattle.cores.proofs.Orders.{number-same}
-use Rattle.groups.specs.Spans.{isSpan, SpanOfDay, spanNeighbours, spanRows}
+use Rattle.spans.specs.Spans.{isSpan, SpanOfDay, spanNeighbours, spanRows}
+use Rattle.spans.proofs.SpanRows.{span-in, span-of, span-row}
 use Rattle.groups.specs.Calls.{coreNumberBytes, spanJudged, coreNumbersOf}
-use Rattle.groups.proofs.SpanRows.{span-row}
-
--- the test for a span of the day passes exactly when first is not after last and last is below T
-pub span-in : (T first last : ℕ) → first ≤ last → last < T → isSpan T first last ≡ true
-unfolding isSpan
-span-in T first last h k = and-in _ _ (le-leb _ _ h) (lt-ltb _ _ k)
-
-pub span-of : (T first last : ℕ) → isSpan T first last ≡ true → (first ≤ last) × (last < T)
-unfolding isSpan
-span-of T first last e = (leb-true _ _ (and-left _ _ e), ltb-true _ _ (and-right _ _ e))
 
 -- a span of the day is judged by its bytes, and any other by 12
 pub judged-yes : (n T : ℕ) (ws : List ℕ) (first last : ℕ) → first ≤ last → last < T → spanJudged n T ws first last ≡ success (coreNumberBytes n ws first last)

@@ -14,13 +14,14 @@ use Rattle.records.proofs.Records.{length-encode}
 use Rattle.log.specs.Buffers.{place}
 use Rattle.log.proofs.Delivering.{take-place}
 use Rattle.cuts.specs.Cuttings.{Cutting}
-use Rattle.groups.specs.Spans.{SpanOfDay}
-use Rattle.groups.specs.SpanCores.{SpanCore}
-use Rattle.groups.specs.Plans.{partOn, partsFrom}
-use Rattle.groups.specs.Encoding.{encodeCore, encodeCores, planBytes}
+use Rattle.spans.specs.Spans.{SpanOfDay}
+use Rattle.spans.specs.SpanCores.{SpanCore}
+use Rattle.spans.specs.Plans.{partOn, partsFrom}
+use Rattle.spans.specs.Encoding.{encodeCore, encodeCores, planBytes}
+use Rattle.spans.proofs.Encoding.{encode-core-length}
 use Rattle.groups.specs.Appending.{AppendsCores}
 use Rattle.groups.specs.Scoring.{PlanParts, EncodesPlan}
-use Rattle.groups.proofs.Appended.{encode-core-length, appends-none, appends-then}
+use Rattle.groups.proofs.Appended.{appends-none, appends-then}
 
 -- the tick after the ends so far
 pub nextFirst : ℕ → List ℕ → ℕ

@@ -20,8 +20,8 @@ use Rattle.cuts.specs.Sums.{bestEnds, tableScore, endsOf}
 use Rattle.cuts.proofs.Cuttings.{total-same}
 use Rattle.cuts.proofs.Sums.{best-ends}
 use Rattle.cuts.proofs.EndsOf.{ends-of}
-use Rattle.groups.specs.Plans.{scoreOn, partsFrom, isQuery, isParts}
-use Rattle.groups.specs.Encoding.{planBytes}
+use Rattle.spans.specs.Plans.{scoreOn, partsFrom, isQuery, isParts}
+use Rattle.spans.specs.Encoding.{planBytes}
 use Rattle.groups.specs.Scoring.{Scores}
 use Rattle.groups.specs.Calls.{planJudged, planOf, Planned}
 

@@ -1,4 +1,4 @@
--- What others cite of the plan: every call that meets the contract keeps the promise in specs/ShiftPlans, and what each of its buffers says.
+-- Theorems of the plan: every call that meets the contract keeps the promise in specs/ShiftPlans, and what each of its buffers says.
 use mathlib.Core.Path.{_≡_, refl, sym, ap, ap₂, _∙_}
 use mathlib.Core.Bool.{Bool, true, false}
 use mathlib.Core.List.{List, _++_}
@@ -16,14 +16,14 @@ use Rattle.days.specs.Calls.{checkOf}
 use Rattle.days.proofs.Checks.{check-day, check-passed}
 use Rattle.log.specs.Buffers.{Delivered, deliver}
 use Rattle.log.proofs.Delivering.{deliver-short, deliver-fits}
-use Rattle.groups.specs.SpanCores.{SpanCore}
-use Rattle.groups.specs.Plans.{partsFrom}
-use Rattle.groups.specs.Encoding.{planBytes, planRecords}
+use Rattle.spans.specs.SpanCores.{SpanCore}
+use Rattle.spans.specs.Plans.{partsFrom}
+use Rattle.spans.specs.Encoding.{planBytes, planRecords}
+use Rattle.spans.specs.PlanStatement.{PlanStatement, PlanAsked}
+use Rattle.spans.proofs.Decoding.{plan-said}
+use Rattle.spans.proofs.PlanParts.{parts-stated, parts-length, parts-small}
 use Rattle.groups.specs.Calls.{planJudged, planOf, Planned}
-use Rattle.groups.specs.PlanStatement.{PlanStatement}
-use Rattle.groups.specs.ShiftPlans.{PlanAsked, PlansShift, PlansShifts, PlanShown}
-use Rattle.groups.proofs.Decoding.{plan-said}
-use Rattle.groups.proofs.PlanParts.{parts-stated, parts-length, parts-small}
+use Rattle.groups.specs.ShiftPlans.{PlansShift, PlansShifts, PlanShown}
 use Rattle.groups.proofs.PlanCall.{judged-query, judged-parts, judged-plan, plan-refused, plan-passed}
 
 -- what was asked for is planned

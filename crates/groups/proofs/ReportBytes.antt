@@ -14,8 +14,8 @@ use Rattle.records.proofs.WithinLimits.{limits-of}
 use Rattle.days.specs.Days.{LentDay}
 use Rattle.log.specs.Buffers.{place}
 use Rattle.log.proofs.Delivering.{take-place}
-use Rattle.groups.specs.Reports.{groupsFrom, groupsOf}
-use Rattle.groups.specs.Encoding.{encodeCores, reportBytes}
+use Rattle.spans.specs.Reports.{groupsFrom, groupsOf}
+use Rattle.spans.specs.Encoding.{encodeCores, reportBytes}
 use Rattle.groups.specs.Lines.{LineSizes, LineRows, LineCores, OrdersBefore}
 use Rattle.groups.specs.Appending.{AppendsCores, lineList, LineRoom, EncodesReport}
 use Rattle.groups.proofs.Appended.{appends-none, appends-more, line-le}

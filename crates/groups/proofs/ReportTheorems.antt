@@ -1,4 +1,4 @@
--- What others cite of the report: the call's promise, as it stands in specs/GroupReports, holds; and what each of its buffers says.
+-- Theorems of the report: the call's promise, as it stands in specs/GroupReports, holds; and what each of its buffers says.
 use mathlib.Core.Path.{_≡_, refl, sym, ap, _∙_}
 use mathlib.Core.Bool.{Bool, true, false}
 use mathlib.Core.List.{List, _++_}
@@ -29,17 +29,17 @@ use Rattle.log.specs.Buffers.{Delivered, deliver}
 use Rattle.log.proofs.Delivering.{deliver-refused, deliver-passed, deliver-short, deliver-fits}
 use Rattle.cores.specs.Cores.{core}
 use Rattle.cores.proofs.Cores.{core-sub}
-use Rattle.groups.specs.Spans.{spanNeighbours}
-use Rattle.groups.specs.SpanCores.{coreOn}
-use Rattle.groups.specs.Reports.{groupsOn, groupsFrom, groupsOf}
-use Rattle.groups.specs.Encoding.{reportBytes, reportRecords}
+use Rattle.spans.specs.Spans.{spanNeighbours}
+use Rattle.spans.specs.SpanCores.{coreOn}
+use Rattle.spans.specs.Reports.{groupsOn, groupsFrom, groupsOf}
+use Rattle.spans.specs.Encoding.{reportBytes, reportRecords}
+use Rattle.spans.specs.GroupStatement.{GroupStatement}
+use Rattle.spans.proofs.Maximal.{groups-on}
+use Rattle.spans.proofs.Decoding.{report-said}
+use Rattle.spans.proofs.GroupLists.{of-groups, groups-stated}
 use Rattle.groups.specs.Calls.{reportOf}
-use Rattle.groups.specs.GroupStatement.{GroupStatement}
 use Rattle.groups.specs.GroupReports.{ReportsGroups, Reported}
-use Rattle.groups.proofs.Maximal.{groups-on}
 use Rattle.groups.proofs.Appended.{keep-le, concat-le}
-use Rattle.groups.proofs.Decoding.{report-said}
-use Rattle.groups.proofs.GroupLists.{of-groups, groups-stated}
 
 -- the members of a core of n badges are below 2 ^ n
 pub core-small : (n : ℕ) (ws : List ℕ) (k first last : ℕ) → n ≤ capacity → coreOn n ws k first last < 2 ^ capacity

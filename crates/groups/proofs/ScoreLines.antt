@@ -16,12 +16,12 @@ use Rattle.days.specs.Days.{LentDay}
 use Rattle.cores.specs.Orders.{highestOrder}
 use Rattle.cores.specs.Rows.{graph}
 use Rattle.cuts.specs.Sums.{tableScore}
-use Rattle.groups.specs.Plans.{scoreOn}
+use Rattle.spans.specs.Plans.{scoreOn}
+use Rattle.spans.proofs.Maximal.{score-falls}
 use Rattle.groups.specs.Steps.{tickRows}
 use Rattle.groups.specs.Lines.{rowsAt, LineRows}
 use Rattle.groups.specs.Scoring.{ScoreSizes, LineScores, Scores}
 use Rattle.groups.proofs.LineLoops.{rows-of}
-use Rattle.groups.proofs.Maximal.{score-falls}
 use Rattle.groups.proofs.LineLaws.{rows-score}
 
 -- a score written into a table is there, and those at other places stay

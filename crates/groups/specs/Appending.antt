@@ -6,9 +6,9 @@ use lib.Dec.{leb, ltb}
 use lib.ListN.{length, getD, take}
 use Rattle.sets.specs.Tables.{concatBelow, keepIf}
 use Rattle.records.specs.Limits.{maxTicks}
-use Rattle.groups.specs.SpanCores.{SpanCore}
-use Rattle.groups.specs.Reports.{groupsOf}
-use Rattle.groups.specs.Encoding.{encodeCores, reportBytes}
+use Rattle.spans.specs.SpanCores.{SpanCore}
+use Rattle.spans.specs.Reports.{groupsOf}
+use Rattle.spans.specs.Encoding.{encodeCores, reportBytes}
 
 -- Records with a mark are appended to so many that stand after a header of so many bytes, each in 13 bytes.
 pub record AppendsCores (a b header : ℕ) (cores : List SpanCore) (count count′ : ℕ) (buffer buffer′ : List ℕ) : Type 0 where

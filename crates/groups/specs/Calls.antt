@@ -10,10 +10,10 @@ use Rattle.days.specs.Calls.{checkOf}
 use Rattle.log.specs.Buffers.{Delivered, deliver}
 use Rattle.cores.specs.Orders.{coreNumber}
 use Rattle.cuts.specs.Cuttings.{IsBest}
-use Rattle.groups.specs.Spans.{isSpan, spanNeighbours}
-use Rattle.groups.specs.Reports.{groupsOf}
-use Rattle.groups.specs.Plans.{scoreOn, partsFrom, isQuery, isParts}
-use Rattle.groups.specs.Encoding.{reportBytes, planBytes}
+use Rattle.spans.specs.Spans.{isSpan, spanNeighbours}
+use Rattle.spans.specs.Reports.{groupsOf}
+use Rattle.spans.specs.Plans.{scoreOn, partsFrom, isQuery, isParts}
+use Rattle.spans.specs.Encoding.{reportBytes, planBytes}
 
 -- "core numbers (day words and a span to n bytes)": the core number of each of the n badges on the span, among all n badges
 unfoldable pub coreNumberBytes : ℕ → List ℕ → ℕ → ℕ → List ℕ

@@ -7,9 +7,9 @@ use Rattle.sets.specs.Sets.{full}
 use Rattle.records.specs.Outcomes.{Outcome, refused, success}
 use Rattle.days.specs.Days.{LentDay}
 use Rattle.log.specs.Buffers.{Delivered}
-use Rattle.groups.specs.SpanCores.{SpanCore}
-use Rattle.groups.specs.Encoding.{reportBytes, reportRecords}
-use Rattle.groups.specs.GroupStatement.{GroupStatement}
+use Rattle.spans.specs.SpanCores.{SpanCore}
+use Rattle.spans.specs.Encoding.{reportBytes, reportRecords}
+use Rattle.spans.specs.GroupStatement.{GroupStatement}
 
 -- A call that reports the groups of every day:
 pub record ReportsGroups (call : ℕ → ℕ → List ℕ → List ℕ → Delivered) (groups : ℕ → ℕ → List ℕ → List SpanCore) : Type 0 where

@@ -1,17 +1,16 @@
 -- What the functions that find the maximal cores of the spans with one first tick promise.
-use mathlib.Core.Bool.{true, false}
 use mathlib.Core.List.{List}
 use mathlib.Core.Path.{_≡_}
-use Prim.Native.Nat.{ℕ, zero, suc, _*_, _≤_, _<_, max}
-use lib.Dec.{ltb}
+use Prim.Native.Nat.{ℕ, suc, _*_, _≤_, _<_, max}
 use lib.ListN.{length, getD, take, drop}
 use Rattle.sets.specs.Sets.{full}
 use Rattle.sets.specs.Members.{capacity}
 use Rattle.records.specs.Limits.{maxTicks}
 use Rattle.cores.specs.Orders.{highestOrder, highestMembers}
 use Rattle.cores.specs.Rows.{graph}
-use Rattle.groups.specs.Spans.{spanNeighbours, spanRows}
-use Rattle.groups.specs.SpanCores.{topOn}
+use Rattle.spans.specs.Spans.{spanRows}
+use Rattle.spans.specs.SpanCores.{topOn}
+use Rattle.spans.specs.LongerSpans.{topBefore, groupMembers}
 
 -- the rows at a place of a table of rows
 unfoldable pub rowsAt : List ℕ → ℕ → List ℕ
@@ -40,18 +39,6 @@ pub record LineCores (n T first : ℕ) (table orders orders′ members′ : List
       → getD orders′ last 0 ≡ highestOrder (graph (rowsAt table last)) (full n) 0 (max (getD orders last 0) (getD orders′ (suc last) 0))
   pub members : (last : ℕ) → first ≤ last → last < T
       → getD members′ last 0 ≡ highestMembers (graph (rowsAt table last)) (full n) 0 (max (getD orders last 0) (getD orders′ (suc last) 0))
-
--- the largest orders on the two spans that are one tick longer, 0 where there is none
-unfoldable pub topBefore : ℕ → List ℕ → ℕ → ℕ → ℕ
-topBefore n ws zero last = 0
-topBefore n ws (suc first) last = topOn n ws first last
-
-unfoldable pub topAfter : ℕ → ℕ → List ℕ → ℕ → ℕ → ℕ
-topAfter n T ws first last = elim (ltb (suc last) T) [ true ↦ topOn n ws first (suc last) | false ↦ 0 ]
-
--- the members of the maximal core on a span, none where there is none
-unfoldable pub groupMembers : ℕ → ℕ → List ℕ → ℕ → ℕ → ℕ
-groupMembers n T ws first last = highestMembers (spanNeighbours n ws first last) (full n) 0 (max (topBefore n ws first last) (topAfter n T ws first last))
 
 -- orders by last tick: those of the spans that start one tick before first
 pub record OrdersBefore (n T : ℕ) (ws : List ℕ) (first : ℕ) (orders : List ℕ) : Type 0 where

@@ -11,8 +11,8 @@ use Rattle.cores.specs.Orders.{highestOrder}
 use Rattle.cores.specs.Rows.{graph}
 use Rattle.cuts.specs.Cuttings.{Cutting}
 use Rattle.cuts.specs.Sums.{tableScore}
-use Rattle.groups.specs.Plans.{scoreOn, partsFrom}
-use Rattle.groups.specs.Encoding.{planBytes}
+use Rattle.spans.specs.Plans.{scoreOn, partsFrom}
+use Rattle.spans.specs.Encoding.{planBytes}
 use Rattle.groups.specs.Lines.{rowsAt}
 
 -- sizes of the lists that a line of spans is scored in

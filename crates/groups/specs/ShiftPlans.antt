@@ -3,20 +3,12 @@ use mathlib.Core.List.{List, _++_}
 use mathlib.Core.Path.{_≡_}
 use Prim.Native.Nat.{ℕ, _≤_, _<_}
 use lib.ListN.{length, take, drop}
-use Rattle.sets.specs.Sets.{Sub, full}
+use Rattle.sets.specs.Sets.{full}
 use Rattle.records.specs.Outcomes.{Outcome, refused, success}
-use Rattle.days.specs.Days.{LentDay}
 use Rattle.log.specs.Buffers.{Delivered}
-use Rattle.groups.specs.SpanCores.{SpanCore}
-use Rattle.groups.specs.Encoding.{planBytes, planRecords}
-use Rattle.groups.specs.PlanStatement.{PlanStatement}
-
--- a lent day, "every h from 1 to the number of ticks and every query naming only the day's badges"
-pub record PlanAsked (n T : ℕ) (ws : List ℕ) (query h : ℕ) : Type 0 where
-  pub lent : LentDay n T ws
-  pub named : Sub query (full n)
-  pub some : 1 ≤ h
-  pub enough : h ≤ T
+use Rattle.spans.specs.SpanCores.{SpanCore}
+use Rattle.spans.specs.Encoding.{planBytes, planRecords}
+use Rattle.spans.specs.PlanStatement.{PlanStatement, PlanAsked}
 
 -- What a call that plans a shift leaves, lent a buffer: there are parts of which the plan statement holds, among all n badges, and which their
 -- bytes say; a buffer of the bytes' length or more holds them, and a shorter one is refused by 9.
@@ -28,7 +20,7 @@ pub record PlansShift (n T : ℕ) (ws : List ℕ) (query h : ℕ) (buffer : List
       → left ≡ record { answer = success (length (planBytes n T h query parts)); buffer = planBytes n T h query parts ++ drop (length (planBytes n T h query parts)) buffer }
   pub measures : length buffer < length (planBytes n T h query parts) → left ≡ record { answer = refused 9 0; buffer = buffer }
 
--- a call that plans every such shift
+-- a call that plans every shift that may be asked for
 abbrev pub PlansShifts : (ℕ → ℕ → List ℕ → ℕ → ℕ → List ℕ → Delivered) → Type 0
 PlansShifts call = (n T : ℕ) (ws : List ℕ) (query h : ℕ) (buffer : List ℕ) → PlanAsked n T ws query h → PlansShift n T ws query h buffer (call n T ws query h buffer)
 

@@ -6,7 +6,7 @@ use lib.ListN.{getD, take, drop}
 use Rattle.sets.specs.Sets.{intersection}
 use Rattle.sets.specs.Members.{capacity}
 use Rattle.sets.specs.Tables.{tabulate}
-use Rattle.groups.specs.Spans.{spanRows}
+use Rattle.spans.specs.Spans.{spanRows}
 
 -- the words of tick t
 unfoldable pub tickOf : ℕ → List ℕ → ℕ → List ℕ

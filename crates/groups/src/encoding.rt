@@ -4,7 +4,7 @@ ghost use mathlib.Core.List.{_∷_, []};
 ghost use Prim.Native.Nat.{_+_, _*_, _≤_, _<_};
 ghost use lib.ListN.{length};
 ghost use Rattle.records.specs.Limits.{maxTicks};
-ghost use Rattle.groups.specs.Encoding.{encodeCore};
+ghost use Rattle.spans.specs.Encoding.{encodeCore};
 ghost use Rattle.groups.specs.Appending.{AppendsCores};
 use log::put;
 

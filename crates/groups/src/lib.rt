@@ -9,8 +9,8 @@ mod numbers;
 mod planning;
 mod refusal;
 mod reporting;
+mod rows;
 mod scoring;
-mod spans;
 
 pub use answer::Written;
 pub use numbers::core_numbers;

@@ -7,8 +7,8 @@ ghost use Rattle.records.specs.Limits.{maxTicks};
 ghost use Rattle.days.specs.Days.{LentDay};
 ghost use Rattle.log.specs.Buffers.{overwrite};
 ghost use Rattle.groups.specs.Lines.{LineSizes, LineRows, LineCores};
-use crate::spans::narrow;
-use crate::spans::tick_rows;
+use crate::rows::narrow;
+use crate::rows::tick_rows;
 use sets::BadgeSet;
 
 // Puts rows into a table of rows, from an offset on.

@@ -8,7 +8,7 @@ ghost use Rattle.groups.specs.Calls.{spanJudged, coreNumbersOf};
 use crate::answer::Written;
 use crate::answer::delivered;
 use crate::refusal::Refusal;
-use crate::spans::span_rows;
+use crate::rows::span_rows;
 use log::Checked;
 use log::check_words;
 use sets::BadgeSet;

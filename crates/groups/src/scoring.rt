@@ -7,7 +7,7 @@ ghost use Rattle.records.specs.Limits.{maxTicks};
 ghost use Rattle.days.specs.Days.{LentDay};
 ghost use Rattle.groups.specs.Scoring.{ScoreSizes, LineScores, Scores};
 use crate::lines::fill_line;
-use crate::spans::tick_rows;
+use crate::rows::tick_rows;
 use sets::BadgeSet;
 
 // Scores the runs that start with a tick, from the rows in a table. No score is below the bound of its last tick: the score of the run that is

@@ -9,3 +9,11 @@ pub mod WriteTheorems
 pub mod SmallLogs
 pub mod ReadSubstitutes
 pub mod TidySubstitutes
+-- core numbers; and words after the day, for the report and the plan
+pub mod NumberTheorems
+pub mod WordsAfter
+-- substitutes for core numbers, the report and the plan
+pub mod SmallDays
+pub mod NumberSubstitutes
+pub mod ReportSubstitutes
+pub mod PlanSubstitutes

@@ -1,4 +1,5 @@
--- What reading, tidying and writing promise, over any call: what a reader has to believe. Laws are in proofs/.
+-- What reading, tidying, writing and core numbers promise, over any call: what a reader has to believe. Laws are in proofs/.
 pub mod Reading
 pub mod Tidying
 pub mod WrittenDays
+pub mod CoreNumbers

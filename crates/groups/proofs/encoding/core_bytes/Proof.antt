@@ -2,7 +2,7 @@
 use mathlib.Core.Path.{refl}
 use borrow.Author.Needs.{needs}
 use Rattle.sets.specs.Bytes.{littleEndian}
-use Rattle.groups.specs.Encoding.{encodeCore}
+use Rattle.spans.specs.Encoding.{encodeCore}
 use Rattle.groups.proofs.encoding.core_bytes.Statement.{statement}
 use Rattle.groups.proofs.encoding.core_bytes.Tie as tie
 

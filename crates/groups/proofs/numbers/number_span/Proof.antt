@@ -12,7 +12,7 @@ use Rattle.records.specs.Outcomes.{Outcome, success}
 use Rattle.records.proofs.WithinLimits.{limits-of}
 use Rattle.log.specs.Buffers.{deliver}
 use Rattle.cores.specs.Rows.{coreNumbers}
-use Rattle.groups.specs.Spans.{SpanOfDay}
+use Rattle.spans.specs.Spans.{SpanOfDay}
 use Rattle.groups.specs.Calls.{coreNumberBytes}
 use Rattle.groups.proofs.NumbersCall.{judged-yes, judged-no, span-passed, numbers-found}
 use Rattle.groups.proofs.numbers.number_span.Statement.{statement}

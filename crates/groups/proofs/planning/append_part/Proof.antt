@@ -4,7 +4,7 @@ use native.Mathlib.Omega.{arith}
 use borrow.Author.Needs.{needs}
 use Rattle.sets.specs.Members.{members}
 use Rattle.records.proofs.WithinLimits.{limits-of}
-use Rattle.groups.proofs.PlanParts.{part-found}
+use Rattle.groups.proofs.PartFound.{part-found}
 use Rattle.groups.proofs.planning.append_part.Statement.{statement}
 use Rattle.groups.proofs.planning.append_part.Tie as tie
 

@@ -5,7 +5,7 @@ use native.Mathlib.Omega.{arith}
 use borrow.Author.Needs.{needs}
 use Rattle.sets.specs.Members.{members}
 use Rattle.records.proofs.WithinLimits.{limits-of}
-use Rattle.groups.specs.Encoding.{encodeCore}
+use Rattle.spans.specs.Encoding.{encodeCore}
 use Rattle.groups.proofs.PlanBytes.{PlanSoFar, parts-few, plan-none, plan-few, plan-span, plan-room, plan-next, plan-end}
 use Rattle.groups.proofs.planning.encode_plan.Statement.{statement}
 use Rattle.groups.proofs.planning.encode_plan.Tie as tie

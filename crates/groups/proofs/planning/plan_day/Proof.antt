@@ -17,7 +17,7 @@ use Rattle.days.specs.Days.{LentDay}
 use Rattle.days.proofs.Checks.{check-passed}
 use Rattle.log.specs.Buffers.{Delivered, deliver}
 use Rattle.cuts.specs.Cuttings.{IsBest}
-use Rattle.groups.specs.Plans.{scoreOn}
+use Rattle.spans.specs.Plans.{scoreOn}
 use Rattle.groups.proofs.PlanCall.{judged-query, judged-parts, judged-plan, plan-passed, planned-judged, table-best}
 use Rattle.groups.proofs.planning.plan_day.Statement.{statement}
 use Rattle.groups.proofs.planning.plan_day.Tie as tie

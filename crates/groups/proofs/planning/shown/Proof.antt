@@ -2,7 +2,7 @@
 use mathlib.Core.Path.{sym, _∙_}
 use native.Mathlib.Omega.{arith}
 use borrow.Author.Needs.{needs}
-use Rattle.groups.proofs.PlanParts.{shown-all, shown-core}
+use Rattle.groups.proofs.PartFound.{shown-all, shown-core}
 use Rattle.groups.proofs.planning.shown.Statement.{statement}
 use Rattle.groups.proofs.planning.shown.Tie as tie
 

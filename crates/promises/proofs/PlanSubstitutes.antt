@@ -1,0 +1,165 @@
+-- Substitutes for the plan, among them those that document 01's acceptance list names, each refuted from the plan statement and the promise that
+-- the call keeps (PlanStatement in spans, ShiftPlans in groups).
+use mathlib.Core.Path.{_≡_, refl, sym, ap, _∙_}
+use mathlib.Core.List.{List, [], _∷_, _++_, append-assoc, List·Memᴰ·head, List·Memᴰ·tail}
+use Prim.Native.Nat.{ℕ, _+_, _-_, _*_, _≤_, _<_}
+use native.Mathlib.Omega.{arith}
+use lib.ListN.{length, getD, take, drop, replicate, length-append, length-replicate}
+use lib.Seq.{take-at}
+use Rattle.sets.specs.Sets.{In, full, size}
+use Rattle.sets.specs.Bytes.{littleEndian}
+use Rattle.sets.proofs.Sets.{none-sub, is-sub-of}
+use Rattle.sets.proofs.Bytes.{length-little-endian}
+use Rattle.records.specs.declared.record.Record.the-variants.{End}
+use Rattle.records.specs.Records.{encode}
+use Rattle.records.specs.Outcomes.{success}
+use Rattle.records.proofs.Records.{length-encode}
+use Rattle.days.specs.Days.{LentDay}
+use Rattle.days.proofs.Scan.{day-of}
+use Rattle.log.specs.Buffers.{Delivered}
+use Rattle.cuts.specs.Sums.{bestEnds}
+use Rattle.cuts.proofs.Sums.{best-ends}
+use Rattle.spans.specs.Spans.{SpanOfDay}
+use Rattle.spans.specs.Contacts.{fellows}
+use Rattle.spans.specs.SpanCores.{SpanCore, Mem}
+use Rattle.spans.specs.Plans.{scoreOn, partsFrom}
+use Rattle.spans.specs.Encoding.{encodeCores, planBytes}
+use Rattle.spans.specs.PlanStatement.{Runs, none, run, sumOfOrders, PlanStatement, PlanAsked}
+use Rattle.spans.proofs.Encoding.{encode-cores-length}
+use Rattle.spans.proofs.Decoding.{last-four}
+use Rattle.spans.proofs.PlanParts.{order-le, parts-stated}
+use Rattle.groups.specs.ShiftPlans.{PlansShift, PlansShifts}
+use Rattle.promises.proofs.SmallDays.{computing, d1Words, d1-lent}
+
+-- The statement leaves no choice of the sum: two lists of which it holds have the same.
+pub sums-same : {n T : ℕ} {ws : List ℕ} {base query h : ℕ} (xs ys : List SpanCore) → PlanStatement n T ws base query h xs → PlanStatement n T ws base query h ys
+    → sumOfOrders xs ≡ sumOfOrders ys
+sums-same xs ys x y = omega (arith, x .greatest ys (y .cutting), y .greatest xs (x .cutting))
+
+-- n 3, T 4: 0–1 in ticks 0 and 1, 0–2 in ticks 2 and 3
+abbrev turning : List ℕ
+turning = 2 ∷ 1 ∷ 0 ∷ 2 ∷ 1 ∷ 0 ∷ 4 ∷ 0 ∷ 1 ∷ 4 ∷ 0 ∷ 1 ∷ []
+
+turning-lent : LentDay 3 4 turning
+unfolding computing
+turning-lent = record { limits = refl; enough = omega arith; day = day-of 3 4 turning refl }
+
+turning-span : (first last : ℕ) → first ≤ last → last < 4 → SpanOfDay 3 4 turning first last
+turning-span first last m w = record { lent = turning-lent; rising = m; inside = w }
+
+-- around badge 0 it is cut into two parts by their last ticks 1 and 3, with the sum 2
+turning-asked : PlanAsked 3 4 turning 1 2
+unfolding computing
+turning-asked = record { lent = turning-lent; named = is-sub-of 1 (full 3) refl; some = omega arith; enough = omega arith }
+
+turning-ends : bestEnds (scoreOn 3 turning 1) 4 2 ≡ 1 ∷ 3 ∷ []
+unfolding computing
+turning-ends = refl
+
+turning-sum : sumOfOrders (partsFrom 3 turning 1 0 (1 ∷ 3 ∷ [])) ≡ 2
+unfolding computing
+turning-sum = refl
+
+turning-stated : PlanStatement 3 4 turning (full 3) 1 2 (partsFrom 3 turning 1 0 (1 ∷ 3 ∷ []))
+turning-stated = rw turning-ends at (parts-stated turning-asked (bestEnds (scoreOn 3 turning 1) 4 2) (best-ends (scoreOn 3 turning 1) 4 2 (omega arith) (omega arith)))
+
+-- the scores of the runs 0 to 0 and 1 to 3
+turning-first : scoreOn 3 turning 1 0 0 ≡ 1
+unfolding computing
+turning-first = refl
+
+turning-rest : scoreOn 3 turning 1 1 3 ≡ 0
+unfolding computing
+turning-rest = refl
+
+-- A careless cut: after tick 0, with whatever scores and members.
+pub careless-cut : (a b s t : ℕ)
+    → PlanStatement 3 4 turning (full 3) 1 2 (record { order = a; first = 0; last = 0; members = s } ∷ record { order = b; first = 1; last = 3; members = t } ∷ []) → ⊥
+unfolding sumOfOrders
+careless-cut a b s t p = omega (
+  arith,
+  order-le 1 (turning-span 0 0 (omega arith) (omega arith)) (p .cutting .within _ (List·Memᴰ·head refl)) (p .cutting .holds _ (List·Memᴰ·head refl)) (p .cutting .least _ (List·Memᴰ·head refl)),
+  order-le 1 (turning-span 1 3 (omega arith) (omega arith)) (p .cutting .within _ second) (p .cutting .holds _ second) (p .cutting .least _ second),
+  turning-first,
+  turning-rest,
+  turning-sum,
+  sums-same _ _ turning-stated p,
+)
+  where
+    second : Mem (record { order = b; first = 1; last = 3; members = t }) (record { order = a; first = 0; last = 0; members = s } ∷ record { order = b; first = 1; last = 3; members = t } ∷ [])
+    second = List·Memᴰ·tail (List·Memᴰ·head refl)
+
+-- Members that are not the core: D1 around badge 2 in one part, of score 1. No set with a member that has no fellow member can be shown,
+pub members-not-the-core : (s u : ℕ) → In s u → size (fellows 4 d1Words 0 2 s u) ≡ 0
+    → PlanStatement 4 3 d1Words (full 4) 4 1 (record { order = 1; first = 0; last = 2; members = s } ∷ []) → ⊥
+members-not-the-core s u i e p = omega (arith, e, p .cutting .least (record { order = 1; first = 0; last = 2; members = s }) (List·Memᴰ·head refl) .each u i)
+
+-- so not the query by itself, and not all badges
+pub members-the-query : PlanStatement 4 3 d1Words (full 4) 4 1 (record { order = 1; first = 0; last = 2; members = 4 } ∷ []) → ⊥
+unfolding computing
+members-the-query p = members-not-the-core 4 2 refl refl p
+
+pub members-all : PlanStatement 4 3 d1Words (full 4) 4 1 (record { order = 1; first = 0; last = 2; members = 15 } ∷ []) → ⊥
+unfolding computing
+members-all p = members-not-the-core 15 0 refl refl p
+
+-- h runs are h parts
+runs-length : {T h t : ℕ} {ps : List SpanCore} → Runs T h t ps → length ps ≡ h
+runs-length none = refl
+runs-length (run l r) = omega (arith, runs-length r)
+
+-- so a plan's length is that of h parts
+plan-length : (n T h query : ℕ) (ps : List SpanCore) → length ps ≡ h → length (planBytes n T h query ps) ≡ 19 + 13 * h
+unfolding planBytes
+plan-length n T h query ps e = omega (
+  arith,
+  length-append (80 ∷ 72 ∷ n ∷ T ∷ h ∷ littleEndian 8 query) (encodeCores 80 84 ps ++ encode (End h)),
+  length-append (encodeCores 80 84 ps) (encode (End h)),
+  length-little-endian 8 query,
+  encode-cores-length 80 84 ps,
+  length-encode (End h),
+)
+
+-- and its last four bytes say h
+plan-four : (n T h query : ℕ) (ps : List SpanCore) → drop (length (planBytes n T h query ps) - 4) (planBytes n T h query ps) ≡ littleEndian 4 h
+unfolding planBytes
+plan-four n T h query ps =
+    let head : List ℕ = 80 ∷ 72 ∷ n ∷ T ∷ h ∷ littleEndian 8 query in
+    ap (λ (b : List ℕ). drop (length b - 4) b) (sym (append-assoc head (encodeCores 80 84 ps) (encode (End h)))) ∙ last-four (head ++ encodeCores 80 84 ps) h
+
+-- An ED count that is the same for all plans, whatever else is written.
+module _ (count : ℕ) (call : ℕ → ℕ → List ℕ → ℕ → ℕ → List ℕ → Delivered)
+    (written : (n T : ℕ) (ws : List ℕ) (query h : ℕ) (buffer : List ℕ) (size : ℕ) → PlanAsked n T ws query h → call n T ws query h buffer .answer ≡ success size
+    → drop (size - 4) (take size (call n T ws query h buffer .buffer)) ≡ littleEndian 4 count)
+    (p : PlansShifts call) where
+  -- it is the number of parts
+  right-count : (h : ℕ) → 1 ≤ h → h ≤ 3 → littleEndian 4 count ≡ littleEndian 4 h
+  right-count h a b =
+      sym (written 4 3 d1Words 0 h lent (length bytes) asked (ap (λ (x : Delivered). x .answer) succeeds))
+      ∙ ap (λ (x : Delivered). drop (length bytes - 4) (take (length bytes) (x .buffer))) succeeds
+      ∙ ap (drop (length bytes - 4)) (take-at bytes (drop (length bytes) lent) (length bytes) refl)
+      ∙ plan-four 4 3 h 0 (shift .parts)
+    where
+      lent : List ℕ
+      lent = replicate 58 0
+
+      long : length lent ≡ 58
+      long = length-replicate {A = ℕ} 58 0
+
+      asked : PlanAsked 4 3 d1Words 0 h
+      asked = record { lent = d1-lent; named = none-sub (full 4); some = a; enough = b }
+
+      shift : PlansShift 4 3 d1Words 0 h lent (call 4 3 d1Words 0 h lent)
+      shift = p 4 3 d1Words 0 h lent asked
+
+      bytes : List ℕ
+      bytes = planBytes 4 3 h 0 (shift .parts)
+
+      succeeds : call 4 3 d1Words 0 h lent ≡ record { answer = success (length bytes); buffer = bytes ++ drop (length bytes) lent }
+      succeeds = shift .succeeds (omega (arith, plan-length 4 3 h 0 (shift .parts) (runs-length (shift .stated .cutting .runs)), long))
+
+  pub plan-count-fixed : ⊥
+  unfolding littleEndian
+  plan-count-fixed =
+      let z : _≡_ {A = ℕ} 1 2 = ap (λ (l : List ℕ). getD l 0 0) (sym (right-count 1 (omega arith) (omega arith)) ∙ right-count 2 (omega arith) (omega arith)) in
+      omega arith

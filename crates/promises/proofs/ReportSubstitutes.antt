@@ -1,0 +1,189 @@
+-- Substitutes for the report, among them those that document 01's acceptance list names, each refuted from the group statement and the promise
+-- that the call keeps (GroupStatement in spans, GroupReports in groups).
+use mathlib.Core.Path.{_≡_, refl, sym, ap, _∙_}
+use mathlib.Core.List.{List, [], _∷_, _++_, List·Memᴰ·head, List·Memᴰ·tail, List·Memᴰ·not-nil, List·Memᴰ·cases-cons, List·Memᴰ·eq-of-singleton}
+use mathlib.Core.Logic.{_⊎_, inl, inr, ⊎-elim, _↔_}
+use Prim.Native.Nat.{ℕ, _+_, _*_, _-_, _≤_, _<_}
+use native.Mathlib.Nat.{le-refl}
+use native.Mathlib.Omega.{arith}
+use lib.ListN.{length, replicate, take, drop, length-append, length-replicate}
+use lib.Seq.{take-at}
+use Rattle.sets.specs.Sets.{full}
+use Rattle.sets.specs.Bytes.{littleEndian, fromLittleEndian}
+use Rattle.sets.proofs.Sets.{sub-antisym}
+use Rattle.records.specs.declared.record.Record.the-variants.{End}
+use Rattle.records.specs.Records.{encode}
+use Rattle.records.specs.Outcomes.{refused}
+use Rattle.records.proofs.Records.{length-encode}
+use Rattle.records.proofs.Outcomes.{refused-success}
+use Rattle.days.specs.Days.{LentDay}
+use Rattle.log.specs.Buffers.{Delivered}
+use Rattle.spans.specs.SpanCores.{SpanCore, Mem}
+use Rattle.spans.specs.Reports.{groupsOf}
+use Rattle.spans.specs.Encoding.{encodeCores, reportBytes, decodeCores, recordsAfter}
+use Rattle.spans.specs.GroupStatement.{Has, GroupStatement}
+use Rattle.spans.proofs.Encoding.{encode-cores-length}
+use Rattle.spans.proofs.Decoding.{last-four}
+use Rattle.spans.proofs.GroupLists.{groups-stated}
+use Rattle.groups.specs.GroupReports.{ReportsGroups}
+use Rattle.promises.proofs.SmallDays.{computing, d1Words, still, d1-lent, still-lent}
+
+-- a record of the same order, span and members is the same
+same-core : (c d : SpanCore) → Has d (c .order) (c .first) (c .last) → d .members ≡ c .members → d ≡ c
+same-core c d h e =
+    ap (λ (x : ℕ). record { order = x; first = d .first; last = d .last; members = d .members }) (h .its-order)
+    ∙ ap (λ (x : ℕ). record { order = c .order; first = x; last = d .last; members = d .members }) (h .its-first)
+    ∙ ap (λ (x : ℕ). record { order = c .order; first = c .first; last = x; members = d .members }) (h .its-last)
+    ∙ ap (λ (x : ℕ). record { order = c .order; first = c .first; last = c .last; members = x }) e
+
+-- The statement leaves no choice of the records: two lists of which it holds have the same.
+pub stated-same : {n T : ℕ} {ws : List ℕ} {base : ℕ} (xs ys : List SpanCore) → GroupStatement n T ws base xs → GroupStatement n T ws base ys
+    → (c : SpanCore) → Mem c xs → Mem c ys
+stated-same {n} {T} {ws} {base} xs ys x y c i =
+    let s = x .span c i in
+    let e = x .exactly (c .order) (c .first) (c .last) (x .order c i) (s .0) (s .1) in
+    let f = y .exactly (c .order) (c .first) (c .last) (x .order c i) (s .0) (s .1) in
+    let d = f .1 (e .0 (c, i, record { its-order = refl; its-first = refl; its-last = refl })) in
+    go (d .0) (d .1) (d .2)
+  where
+    go : (d : SpanCore) → Mem d ys → Has d (c .order) (c .first) (c .last) → Mem c ys
+    go d j h =
+        let a = x .largest c (d .members) i (rw (h .its-order, h .its-first, h .its-last) at (y .members d j)) in
+        let b = y .largest d (c .members) j (rw (h .its-order, h .its-first, h .its-last) (x .members c i)) in
+        rw (same-core c d h (sub-antisym _ _ a b)) at j
+
+-- A group of the day that is left out.
+pub group-left-out : {n T : ℕ} {ws : List ℕ} (xs : List SpanCore) → GroupStatement n T ws (full n) xs → LentDay n T ws
+    → (c : SpanCore) → Mem c (groupsOf n T ws) → (Mem c xs → ⊥) → ⊥
+group-left-out {n} {T} {ws} xs s d c i h = h (stated-same (groupsOf n T ws) xs (groups-stated n T ws d) s c i)
+
+-- A record that is none of the day's groups.
+pub not-maximal : {n T : ℕ} {ws : List ℕ} (xs : List SpanCore) → GroupStatement n T ws (full n) xs → LentDay n T ws
+    → (c : SpanCore) → Mem c xs → (Mem c (groupsOf n T ws) → ⊥) → ⊥
+not-maximal {n} {T} {ws} xs s d c i h = h (stated-same xs (groupsOf n T ws) s (groups-stated n T ws d) c i)
+
+-- A record that is shown twice.
+pub group-twice : {n T : ℕ} {ws : List ℕ} {base : ℕ} (xs ys zs : List SpanCore) (c : SpanCore) → GroupStatement n T ws base (xs ++ (c ∷ (ys ++ (c ∷ zs)))) → ⊥
+group-twice xs ys zs c s = s .once xs ys zs c c refl (record { its-order = refl; its-first = refl; its-last = refl })
+
+-- A record of order 0.
+pub order-zero : {n T : ℕ} {ws : List ℕ} {base : ℕ} (xs : List SpanCore) → GroupStatement n T ws base xs → (c : SpanCore) → Mem c xs → c .order ≡ 0 → ⊥
+order-zero xs s c i e = omega (arith, s .order c i)
+
+-- D1's groups
+abbrev triple : SpanCore
+triple = record { order = 2; first = 0; last = 1; members = 7 }
+
+abbrev couple : SpanCore
+couple = record { order = 1; first = 0; last = 2; members = 12 }
+
+d1-groups : groupsOf 4 3 d1Words ≡ triple ∷ couple ∷ []
+unfolding computing
+d1-groups = refl
+
+-- a list of which D1's statement holds has the first,
+d1-triple : (xs : List SpanCore) → GroupStatement 4 3 d1Words (full 4) xs → Mem triple xs
+d1-triple xs s = stated-same (groupsOf 4 3 d1Words) xs (groups-stated 4 3 d1Words d1-lent) s triple (rw d1-groups (List·Memᴰ·head refl))
+
+-- and no group of D1 has other members than these two
+d1-members : (c : SpanCore) → Mem c (groupsOf 4 3 d1Words) → (c .members ≡ 7) ⊎ (c .members ≡ 12)
+d1-members c i = ⊎-elim (λ e. inl (ap (λ (x : SpanCore). x .members) e)) (λ j. inr (ap (λ (x : SpanCore). x .members) (List·Memᴰ·eq-of-singleton j)))
+    (List·Memᴰ·cases-cons (rw d1-groups at i))
+
+-- An empty report for all days.
+pub empty-report : (call : ℕ → ℕ → List ℕ → List ℕ → Delivered) → ReportsGroups call (λ n T ws. []) → ⊥
+empty-report call p = List·Memᴰ·not-nil (d1-triple [] (p .stated 4 3 d1Words d1-lent))
+
+-- D1's report without its second group
+pub second-left-out : GroupStatement 4 3 d1Words (full 4) (triple ∷ []) → ⊥
+second-left-out s = group-left-out (triple ∷ []) s d1-lent couple (rw d1-groups (List·Memᴰ·tail (List·Memᴰ·head refl)))
+    (λ i. let z : _≡_ {A = ℕ} 12 7 = ap (λ (x : SpanCore). x .members) (List·Memᴰ·eq-of-singleton i) in omega arith)
+
+-- D1's report with the core of order 1 on 0 to 1, which is not maximal, among its records: wherever it stands, and so added once, and twice
+abbrev allFour : SpanCore
+allFour = record { order = 1; first = 0; last = 1; members = 15 }
+
+pub core-not-maximal : (xs : List SpanCore) → GroupStatement 4 3 d1Words (full 4) xs → Mem allFour xs → ⊥
+core-not-maximal xs s i = not-maximal xs s d1-lent allFour i (λ j. ⊎-elim (λ e. omega arith) (λ e. omega arith) (d1-members allFour j))
+
+pub added-once : GroupStatement 4 3 d1Words (full 4) (triple ∷ allFour ∷ couple ∷ []) → ⊥
+added-once s = core-not-maximal _ s (List·Memᴰ·tail (List·Memᴰ·head refl))
+
+pub added-twice : GroupStatement 4 3 d1Words (full 4) (triple ∷ allFour ∷ allFour ∷ couple ∷ []) → ⊥
+added-twice s = core-not-maximal _ s (List·Memᴰ·tail (List·Memᴰ·head refl))
+
+-- D1's first group with fewer members
+abbrev fewer : SpanCore
+fewer = record { order = 2; first = 0; last = 1; members = 3 }
+
+pub fewer-members : (xs : List SpanCore) → GroupStatement 4 3 d1Words (full 4) xs → Mem fewer xs → ⊥
+fewer-members xs s i = not-maximal xs s d1-lent fewer i (λ j. ⊎-elim (λ e. omega arith) (λ e. omega arith) (d1-members fewer j))
+
+-- a record of a report has 13 bytes, and header and end have 10
+report-length : (n T : ℕ) (cs : List SpanCore) → length (reportBytes n T cs) ≡ 10 + 13 * length cs
+unfolding reportBytes
+report-length n T cs = omega (arith, length-append (encodeCores 71 82 cs) (encode (End (length cs))), encode-cores-length 71 82 cs, length-encode (End (length cs)))
+
+-- a day without contacts has no groups
+none-still : {call : ℕ → ℕ → List ℕ → List ℕ → Delivered} {groups : ℕ → ℕ → List ℕ → List SpanCore} → ReportsGroups call groups → groups 4 3 still ≡ []
+unfolding computing
+none-still {call} {groups} p = empty (groups 4 3 still) (λ c i. List·Memᴰ·not-nil (stated-same (groups 4 3 still) [] (p .stated 4 3 still still-lent) (groups-stated 4 3 still still-lent) c i))
+  where
+    empty : (xs : List SpanCore) → ((c : SpanCore) → Mem c xs → ⊥) → xs ≡ []
+    empty [] h = refl
+    empty (c ∷ xs) h = absurd (h c (List·Memᴰ·head refl))
+
+-- 9 before measuring the answer: judged by any bound that n and T decide. A day without groups has a report of 10 bytes, and D1 a longer one.
+pub bound-before-measuring : (call : ℕ → ℕ → List ℕ → List ℕ → Delivered) (groups : ℕ → ℕ → List ℕ → List SpanCore) (bound : ℕ → ℕ → ℕ)
+    → ((n T : ℕ) (ws buffer : List ℕ) → LentDay n T ws → (call n T ws buffer .answer ≡ refused 9 0) ↔ (length buffer < bound n T))
+    → ReportsGroups call groups → ⊥
+bound-before-measuring call groups bound e p =
+    let low : 10 < bound 4 3 → ⊥ = λ h. refused-success (sym (e 4 3 still ten still-lent .1 (omega (arith, long))) ∙ ap (λ (x : Delivered). x .answer) (p .succeeds 4 3 still ten still-lent (omega (arith, short, long)))) in
+    low (omega (arith, e 4 3 d1Words ten d1-lent .0 (ap (λ (x : Delivered). x .answer) (p .measures 4 3 d1Words ten d1-lent (omega (arith, longer _ (d1-triple _ (p .stated 4 3 d1Words d1-lent)), long)))), long))
+  where
+    ten : List ℕ
+    ten = replicate 10 0
+
+    long : length ten ≡ 10
+    long = length-replicate {A = ℕ} 10 0
+
+    short : length (reportBytes 4 3 (groups 4 3 still)) ≡ 10
+    short = report-length 4 3 (groups 4 3 still) ∙ ap (λ (x : List SpanCore). 10 + 13 * length x) (none-still p)
+
+    longer : (xs : List SpanCore) → Mem triple xs → 10 < length (reportBytes 4 3 xs)
+    longer [] i = absurd (List·Memᴰ·not-nil i)
+    longer (x ∷ xs) i = omega (arith, report-length 4 3 (x ∷ xs))
+
+-- where bytes that differ in the ED count alone are equal, the four bytes of the two counts are the same
+same-four : (front : List ℕ) (count other : ℕ) (rest : List ℕ) → (front ++ encode (End count)) ++ rest ≡ (front ++ encode (End other)) ++ rest
+    → littleEndian 4 count ≡ littleEndian 4 other
+same-four front count other rest e = sym (last-four front count) ∙ ap (λ (b : List ℕ). drop (length b - 4) b) same ∙ last-four front other
+  where
+    long : length (front ++ encode (End count)) ≡ length (front ++ encode (End other))
+    long = omega (arith, length-append front (encode (End count)), length-append front (encode (End other)), length-encode (End count), length-encode (End other))
+
+    same : front ++ encode (End count) ≡ front ++ encode (End other)
+    same = sym (take-at _ rest (length (front ++ encode (End other))) long) ∙ ap (take (length (front ++ encode (End other)))) e ∙ take-at _ rest _ refl
+
+-- An ED count that is the same for all days, after whatever groups the promise is kept with.
+module _ (count : ℕ) (groups : ℕ → ℕ → List ℕ → List SpanCore) (call : ℕ → ℕ → List ℕ → List ℕ → Delivered)
+    (written : (n T : ℕ) (ws buffer : List ℕ) → LentDay n T ws → length (reportBytes n T (groups n T ws)) ≤ length buffer
+    → call n T ws buffer .buffer
+    ≡ ((82 ∷ 72 ∷ n ∷ T ∷ []) ++ (encodeCores 71 82 (groups n T ws) ++ encode (End count))) ++ drop (length (reportBytes n T (groups n T ws))) buffer)
+    (p : ReportsGroups call groups) where
+  -- it is that of the day's groups
+  right-count : {n T : ℕ} {ws : List ℕ} → LentDay n T ws → littleEndian 4 count ≡ littleEndian 4 (length (groups n T ws))
+  unfolding reportBytes
+  right-count {n} {T} {ws} d =
+      let bytes = reportBytes n T (groups n T ws) in
+      same-four ((82 ∷ 72 ∷ n ∷ T ∷ []) ++ encodeCores 71 82 (groups n T ws)) count (length (groups n T ws)) (drop (length bytes) bytes)
+      (sym (written n T ws bytes d (le-refl _)) ∙ ap (λ (x : Delivered). x .buffer) (p .succeeds n T ws bytes d (le-refl _)))
+
+  pub end-count-fixed : ⊥
+  unfolding reportBytes recordsAfter decodeCores littleEndian fromLittleEndian
+  end-count-fixed =
+      let xs = groups 4 3 d1Words in
+      let a : littleEndian 4 (length xs) ≡ littleEndian 4 0 = sym (right-count d1-lent) ∙ right-count still-lent ∙ ap (λ (x : List SpanCore). littleEndian 4 (length x)) (none-still p) in
+      let b : drop (length (reportBytes 4 3 xs) - 4) (reportBytes 4 3 xs) ≡ littleEndian 4 0 = last-four ((82 ∷ 72 ∷ 4 ∷ 3 ∷ []) ++ encodeCores 71 82 xs) (length xs) ∙ a in
+      let c : xs ≡ [] = sym (p .said 4 3 d1Words d1-lent) ∙ ap (λ (x : List ℕ). decodeCores (fromLittleEndian x) (drop 4 (reportBytes 4 3 xs))) b in
+      List·Memᴰ·not-nil (rw c at (d1-triple xs (p .stated 4 3 d1Words d1-lent)))

@@ -1,0 +1,139 @@
+-- The group statement holds of the list of a day's maximal cores.
+use mathlib.Core.Path.{_≡_, refl, ap}
+use mathlib.Core.Bool.{Bool, true, false}
+use mathlib.Core.List.{List, List·Memᴰ·head, List·Memᴰ·eq-of-singleton}
+use Prim.Native.Nat.{ℕ, suc, _≤_, _<_, suc-le-suc}
+use native.Mathlib.Omega.{arith}
+use lib.Dec.{leb}
+use borrow.Author.Tests.{leb-true, le-leb, ltb-true, lt-ltb}
+use Rattle.sets.specs.Sets.{Sub, full}
+use Rattle.sets.specs.Tables.{keepIf}
+use Rattle.sets.proofs.Bools.{clash, and-in, and-left, and-right}
+use Rattle.sets.proofs.Sets.{sub-refl, sub-pos}
+use Rattle.sets.proofs.Concat.{in-concat, of-concat, keep-nil, in-keep, of-keep}
+use Rattle.sets.proofs.Pairwise.{Pairwise, nothing, pairwise-one, pairwise-concat, pairwise-keep, pairwise-two}
+use Rattle.days.specs.Days.{LentDay}
+use Rattle.cores.proofs.Cores.{core-sub, core-cohesive, core-largest}
+use Rattle.spans.specs.Spans.{SpanOfDay}
+use Rattle.spans.specs.Contacts.{OfOrder}
+use Rattle.spans.specs.SpanCores.{SpanCore, Mem, coreOn, hasCore}
+use Rattle.spans.specs.Reports.{isMaximal, isGroup, groupsOn, groupsFrom, groupsOf}
+use Rattle.spans.specs.GroupStatement.{Unsurpassed, Has, GroupStatement}
+use Rattle.spans.proofs.OrderSets.{order-cohesive, cohesive-order}
+use Rattle.spans.proofs.Maximal.{top-le, maximal-of, maximal-in, group-of, groups-on}
+
+-- What is in the list: exactly the groups of the day's spans, with the members of their cores.
+pub record Shown (n T : ℕ) (ws : List ℕ) (c : SpanCore) : Type 0 where
+  pub rising : c .first ≤ c .last
+  pub inside : c .last < T
+  pub group : isGroup n T ws (c .order) (c .first) (c .last) ≡ true
+  pub members : c .members ≡ coreOn n ws (c .order) (c .first) (c .last)
+
+module _ (n T : ℕ) (ws : List ℕ) where
+  pub of-groups : (c : SpanCore) → Mem c (groupsOf n T ws) → Shown n T ws c
+  unfolding groupsOf groupsFrom groupsOn
+  of-groups c i =
+      let x = of-concat T (groupsFrom n T ws) i in
+      let y = of-concat T _ (x .2) in
+      let z = of-keep (leb (x .0) (y .0)) _ (y .2) in
+      let k = of-concat (suc n) _ (z .1) in
+      let g = of-keep (isGroup n T ws (k .0) (x .0) (y .0)) _ (k .2) in
+      let e = List·Memᴰ·eq-of-singleton (g .1) in
+      rw e (record { rising = leb-true _ _ (z .0); inside = y .1; group = g .0; members = refl })
+
+  pub in-groups : (k first last : ℕ) → first ≤ last → last < T → isGroup n T ws k first last ≡ true
+      → Mem (record { order = k; first = first; last = last; members = coreOn n ws k first last }) (groupsOf n T ws)
+  unfolding groupsOf groupsFrom groupsOn
+  in-groups k first last m w g =
+      in-concat T (groupsFrom n T ws) first (omega arith)
+      (in-concat T _ last w (in-keep _ _ (le-leb _ _ m) (in-concat (suc n) _ k (suc-le-suc (omega (arith, group-of n T ws first last m w k g .0, top-le n ws first last))) (in-keep _ _ g (List·Memᴰ·head refl)))))
+
+-- a core of order k is there on a span of the day exactly when some set of order k is; it is such a set and holds every other
+module _ {n T : ℕ} {ws : List ℕ} {first last : ℕ} (d : SpanOfDay n T ws first last) (k : ℕ) where
+  pub order-sub : (s : ℕ) → OfOrder n ws (full n) k first last s → Sub s (coreOn n ws k first last)
+  unfolding coreOn
+  order-sub s o = core-largest _ (full n) k s (o .within) (order-cohesive d (full n) (sub-refl _) o)
+
+  pub order-has : (s : ℕ) → OfOrder n ws (full n) k first last s → hasCore n ws k first last ≡ true
+  unfolding hasCore
+  order-has s o = lt-ltb _ _ (sub-pos (order-sub s o) (o .some))
+
+  pub has-order : hasCore n ws k first last ≡ true → OfOrder n ws (full n) k first last (coreOn n ws k first last)
+  unfolding hasCore coreOn
+  has-order e = cohesive-order d (full n) (sub-refl _) (core-sub _ (full n) k) (ltb-true _ _ e) (core-cohesive _ (full n) k)
+
+-- what a group's test says
+pub group-parts : (n T : ℕ) (ws : List ℕ) (k first last : ℕ) → isGroup n T ws k first last ≡ true → (1 ≤ k) × (hasCore n ws k first last ≡ true) × (isMaximal n T ws k first last ≡ true)
+unfolding isGroup
+group-parts n T ws k first last e = (leb-true _ _ (and-left _ _ (and-left _ _ e)), and-right _ _ (and-left _ _ e), and-right _ _ e)
+
+pub group-whole : (n T : ℕ) (ws : List ℕ) (k first last : ℕ) → 1 ≤ k → hasCore n ws k first last ≡ true → isMaximal n T ws k first last ≡ true → isGroup n T ws k first last ≡ true
+unfolding isGroup
+group-whole n T ws k first last l h m = and-in _ _ (and-in _ _ (le-leb _ _ l) h) m
+
+-- on a day, a group's order and span are unsurpassed, and what is unsurpassed is a group's
+module _ {n T : ℕ} {ws : List ℕ} (lent : LentDay n T ws) where
+  span : {first last : ℕ} → first ≤ last → last < T → SpanOfDay n T ws first last
+  span m w = record { lent = lent; rising = m; inside = w }
+
+  pub unsurpassed-of : (k first last : ℕ) → first ≤ last → last < T → isGroup n T ws k first last ≡ true → Unsurpassed n T ws (full n) k first last
+  unsurpassed-of k first last m w g = let p = group-parts n T ws k first last g in record {
+    some = (coreOn n ws k first last, has-order (span m w) k (p .1));
+    none = λ k′ first′ last′ s a b c e o.
+        maximal-of n T ws k first last (p .2) k′ first′ last′ (omega arith) e a b c (order-has (span (omega arith) e) k′ s o);
+  }
+
+  pub unsurpassed-in : (k first last : ℕ) → 1 ≤ k → first ≤ last → last < T → Unsurpassed n T ws (full n) k first last → isGroup n T ws k first last ≡ true
+  unsurpassed-in k first last l m w u = group-whole n T ws k first last l (order-has (span m w) k (u .some .0) (u .some .1))
+      (maximal-in n T ws k first last (λ k′ first′ last′ p q a b c h. u .none k′ first′ last′ (coreOn n ws k′ first′ last′) a b c q (has-order (span p q) k′ h)))
+
+-- no two records of the list have the same span
+abbrev Apart : SpanCore → SpanCore → Type 0
+Apart c d = Has c (d .order) (d .first) (d .last) → ⊥
+
+of-cell : (n T : ℕ) (ws : List ℕ) (first last : ℕ) (c : SpanCore) → Mem c (keepIf (leb first last) (groupsOn n T ws first last)) → (c .first ≡ first) × (c .last ≡ last)
+unfolding groupsOn
+of-cell n T ws first last c i =
+    let k = of-concat (suc n) _ (of-keep (leb first last) _ i .1) in
+    let e = List·Memᴰ·eq-of-singleton (of-keep (isGroup n T ws (k .0) first last) _ (k .2) .1) in
+    (ap (λ (x : SpanCore). x .first) e, ap (λ (x : SpanCore). x .last) e)
+
+of-line : (n T : ℕ) (ws : List ℕ) (first : ℕ) (c : SpanCore) → Mem c (groupsFrom n T ws first) → c .first ≡ first
+unfolding groupsFrom
+of-line n T ws first c i = let x = of-concat T _ i in of-cell n T ws first (x .0) c (x .2) .0
+
+cell-apart : (n T : ℕ) (ws : List ℕ) (first last : ℕ) → last < T → Pairwise Apart (keepIf (leb first last) (groupsOn n T ws first last))
+cell-apart n T ws first last w = go (leb first last) refl
+  where
+    go : (b : Bool) → leb first last ≡ b → Pairwise Apart (keepIf b (groupsOn n T ws first last))
+    go false e = pairwise-keep-none
+      where
+        pairwise-keep-none : Pairwise Apart (keepIf false (groupsOn n T ws first last))
+        pairwise-keep-none = rw (keep-nil false (groupsOn n T ws first last) (λ f. clash f refl)) nothing
+    go true e = pairwise-keep true (rw (groups-on n T ws first last (leb-true _ _ e) w) (pairwise-keep _ (pairwise-one _)))
+
+pub groups-apart : (n T : ℕ) (ws : List ℕ) → Pairwise Apart (groupsOf n T ws)
+unfolding groupsOf groupsFrom
+groups-apart n T ws = pairwise-concat T (groupsFrom n T ws)
+    (λ first l. pairwise-concat T _ (λ last w. cell-apart n T ws first last w)
+    (λ i j a b x y p q h. omega (arith, of-cell n T ws first i x p .1, of-cell n T ws first j y q .1, h .its-last)))
+    (λ i j a b x y p q h. omega (arith, of-line n T ws i x p, of-line n T ws j y q, h .its-first))
+
+-- The group statement.
+pub groups-stated : (n T : ℕ) (ws : List ℕ) → LentDay n T ws → GroupStatement n T ws (full n) (groupsOf n T ws)
+groups-stated n T ws lent = record {
+  order = λ c i. group-parts n T ws _ _ _ (of-groups n T ws c i .group) .0;
+  span = λ c i. (of-groups n T ws c i .rising, of-groups n T ws c i .inside);
+  exactly = λ k first last l m w. (
+    λ x. let s = of-groups n T ws (x .0) (x .1) in let h = x .2 in found k first last h s,
+    λ u. (record { order = k; first = first; last = last; members = coreOn n ws k first last }, in-groups n T ws k first last m w (unsurpassed-in lent k first last l m w u), record { its-order = refl; its-first = refl; its-last = refl }),
+  );
+  once = λ xs ys zs c d e. pairwise-two xs ys zs c d (rw e at (groups-apart n T ws));
+  members = λ c i. let s = of-groups n T ws c i in rw (s .members) (has-order (span lent (s .rising) (s .inside)) (c .order) (group-parts n T ws _ _ _ (s .group) .1));
+  largest = λ c t i o. let s = of-groups n T ws c i in rw (s .members) (order-sub (span lent (s .rising) (s .inside)) (c .order) t o);
+}
+  where
+    found : (k first last : ℕ) {c : SpanCore} → Has c k first last → Shown n T ws c → Unsurpassed n T ws (full n) k first last
+    found k first last {c} h s =
+        let u = unsurpassed-of lent (c .order) (c .first) (c .last) (s .rising) (s .inside) (s .group) in
+        rw (h .its-order, h .its-first, h .its-last) at u

@@ -1,0 +1,13 @@
+-- Laws of the definitions in specs/, from the bottom up, for the proofs of the crates that depend on it.
+
+-- spans: their rows, and the sets of an order on them
+pub mod SpanRows
+pub mod OrderSets
+-- records in bytes
+pub mod Encoding
+pub mod Decoding
+-- the report: maximal cores, and the group statement
+pub mod Maximal
+pub mod GroupLists
+-- the plan: parts, and the plan statement
+pub mod PlanParts

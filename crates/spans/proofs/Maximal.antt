@@ -1,0 +1,234 @@
+-- Laws of maximal cores: only the largest order of a span can be one, and of the spans that contain it the two that are one tick longer decide.
+use mathlib.Core.Path.{_≡_, refl, sym, ap, _∙_}
+use mathlib.Core.Bool.{Bool, true, false}
+use mathlib.Core.List.{List, [], _∷_}
+use mathlib.Core.Logic.{_⊎_, inl, inr, by-cases}
+use Prim.Native.Nat.{ℕ, zero, suc, _≤_, _<_, max, zero-le, suc-le-suc}
+use native.Mathlib.Nat.{le-refl, le-trans, eq-or-lt-of-le}
+use native.Mathlib.Decide.{decLt, decLe}
+use native.Mathlib.Omega.{arith}
+use lib.Dec.{ltb}
+use borrow.Author.Tests.{leb-true, le-leb, ltb-true, lt-ltb, le-ltb, eqb-true, eq-eqb}
+use Rattle.sets.specs.Bools.{_and_, _or_, isnt}
+use Rattle.sets.specs.Sets.{full}
+use Rattle.sets.specs.Tables.{concatBelow, keepIf}
+use Rattle.sets.proofs.Bools.{clash, and-in, and-left, and-right, or-left, or-right, or-of, isnt-in, isnt-of, all-in, all-of}
+use Rattle.sets.proofs.Sets.{sub-refl, sub-trans, sub-pos}
+use Rattle.sets.proofs.Size.{size-full}
+use Rattle.sets.proofs.Concat.{concat-nil, concat-only, keep-nil, keep-all}
+use Rattle.cores.specs.Cores.{core}
+use Rattle.cores.specs.Orders.{score}
+use Rattle.cores.proofs.Cores.{core-mono, core-order}
+use Rattle.cores.proofs.Orders.{contains-of, contains-in, score-of, score-in, top-of, top-in, top-score, highest-yes, highest-no}
+use Rattle.spans.specs.Spans.{isSpan, spanNeighbours}
+use Rattle.spans.specs.SpanCores.{SpanCore, coreOn, hasCore, topOn}
+use Rattle.spans.specs.Plans.{scoreOn}
+use Rattle.spans.specs.Reports.{asLarge, same, isMaximal, isGroup, groupsOn}
+use Rattle.spans.specs.LongerSpans.{topBefore, topAfter, groupMembers}
+use Rattle.spans.proofs.SpanRows.{span-fewer, span-in, span-of}
+
+-- a core of order k is there exactly up to the largest order of the span
+pub has-top : (n : ℕ) (ws : List ℕ) (k first last : ℕ) → 1 ≤ k → k ≤ topOn n ws first last → hasCore n ws k first last ≡ true
+unfolding hasCore coreOn topOn
+has-top n ws k first last l h = lt-ltb _ _ (top-of (spanNeighbours n ws first last) (full n) k l h)
+
+pub top-has : (n : ℕ) (ws : List ℕ) (k first last : ℕ) → hasCore n ws k first last ≡ true → k ≤ topOn n ws first last
+unfolding hasCore coreOn topOn
+top-has n ws k first last e = top-in (spanNeighbours n ws first last) (full n) k (ltb-true _ _ e)
+
+-- no order of a core is above n
+pub top-le : (n : ℕ) (ws : List ℕ) (first last : ℕ) → topOn n ws first last ≤ n
+unfolding topOn
+top-le n ws first last = go (topOn n ws first last) refl
+  where
+    go : (k : ℕ) → topOn n ws first last ≡ k → k ≤ n
+    go zero e = zero-le
+    go (suc k) e = omega (arith, core-order (spanNeighbours n ws first last) (full n) (suc k) (top-of (spanNeighbours n ws first last) (full n) (suc k) (suc-le-suc zero-le) (omega arith)), size-full n)
+
+-- the largest order on the span that is one tick longer at its start, if there is one
+pub before-none : (n : ℕ) (ws : List ℕ) (last : ℕ) → topBefore n ws 0 last ≡ 0
+unfolding topBefore
+before-none n ws last = refl
+
+pub before-more : (n : ℕ) (ws : List ℕ) (first last : ℕ) → topBefore n ws (suc first) last ≡ topOn n ws first last
+unfolding topBefore
+before-more n ws first last = refl
+
+-- the score of a query falls as a span grows: the core on a span lies in the core of the same order on every span within it
+pub score-falls : (n : ℕ) (ws : List ℕ) (query first last first′ last′ : ℕ) → first′ ≤ first → last ≤ last′
+    → scoreOn n ws query first′ last′ ≤ scoreOn n ws query first last
+unfolding scoreOn
+score-falls n ws query first last first′ last′ l r = go (scoreOn n ws query first′ last′) refl
+  where
+    go : (k : ℕ) → scoreOn n ws query first′ last′ ≡ k → k ≤ scoreOn n ws query first last
+    go zero e = zero-le
+    go (suc k) e =
+        let c = contains-of (spanNeighbours n ws first′ last′) (full n) query (suc k) (score-of _ _ query (suc k) (suc-le-suc zero-le) (omega arith)) in
+        let f = core-mono (full n) (full n) (suc k) (suc k) (sub-refl _) (span-fewer n ws (full n) first last first′ last′ l r) (le-refl _) in
+        score-in _ _ query (suc k) (contains-in _ _ query (suc k) (sub-pos f (c .0)) (sub-trans (c .1) f))
+
+-- the largest order is the score of the empty query, and so it falls too
+pub score-top : (n : ℕ) (ws : List ℕ) (first last : ℕ) → score (spanNeighbours n ws first last) (full n) 0 ≡ topOn n ws first last
+unfolding topOn
+score-top n ws first last = sym (top-score (spanNeighbours n ws first last) (full n))
+
+pub top-falls : (n : ℕ) (ws : List ℕ) (first last first′ last′ : ℕ) → first′ ≤ first → last ≤ last′ → topOn n ws first′ last′ ≤ topOn n ws first last
+unfolding scoreOn
+top-falls n ws first last first′ last′ l r =
+    let h : score (spanNeighbours n ws first′ last′) (full n) 0 ≤ score (spanNeighbours n ws first last) (full n) 0 = score-falls n ws 0 first last first′ last′ l r in
+    omega (arith, score-top n ws first last, score-top n ws first′ last′)
+
+-- the largest order on the span that is one tick longer at its end, if there is one
+pub after-yes : (n T : ℕ) (ws : List ℕ) (first last : ℕ) → suc last < T → topAfter n T ws first last ≡ topOn n ws first (suc last)
+unfolding topAfter
+after-yes n T ws first last h = rw (lt-ltb (suc last) T h, topAfter)
+
+pub after-no : (n T : ℕ) (ws : List ℕ) (first last : ℕ) → T ≤ suc last → topAfter n T ws first last ≡ 0
+unfolding topAfter
+after-no n T ws first last h = rw (le-ltb (suc last) T h, topAfter)
+
+-- the three tests of a core that is at least as large, and not the same
+large-in : (k first last k′ first′ last′ : ℕ) → k ≤ k′ → first′ ≤ first → last ≤ last′ → asLarge k first last k′ first′ last′ ≡ true
+unfolding asLarge
+large-in k first last k′ first′ last′ a b c = and-in _ _ (and-in _ _ (le-leb _ _ a) (le-leb _ _ b)) (le-leb _ _ c)
+
+large-of : (k first last k′ first′ last′ : ℕ) → asLarge k first last k′ first′ last′ ≡ true → (k ≤ k′) × (first′ ≤ first) × (last ≤ last′)
+unfolding asLarge
+large-of k first last k′ first′ last′ e = (leb-true _ _ (and-left _ _ (and-left _ _ e)), leb-true _ _ (and-right _ _ (and-left _ _ e)), leb-true _ _ (and-right _ _ e))
+
+same-in : (k first last : ℕ) → same k first last k first last ≡ true
+unfolding same
+same-in k first last = and-in _ _ (and-in _ _ (eq-eqb k k refl) (eq-eqb first first refl)) (eq-eqb last last refl)
+
+same-of : (k first last k′ first′ last′ : ℕ) → same k first last k′ first′ last′ ≡ true → (k′ ≡ k) × (first′ ≡ first) × (last′ ≡ last)
+unfolding same
+same-of k first last k′ first′ last′ e = (eqb-true _ _ (and-left _ _ (and-left _ _ e)), eqb-true _ _ (and-right _ _ (and-left _ _ e)), eqb-true _ _ (and-right _ _ e))
+
+-- A core is maximal exactly when every core with order and span at least as large is the same.
+module _ (n T : ℕ) (ws : List ℕ) (k first last : ℕ) where
+  pub maximal-of : isMaximal n T ws k first last ≡ true
+      → (k′ first′ last′ : ℕ) → first′ ≤ last′ → last′ < T → k ≤ k′ → first′ ≤ first → last ≤ last′ → hasCore n ws k′ first′ last′ ≡ true → (k′ ≡ k) × (first′ ≡ first) × (last′ ≡ last)
+  unfolding isMaximal
+  maximal-of e k′ first′ last′ m w a b c h = go (or-of _ _ (all-of T _ (all-of T _ (all-of (suc n) _ e k′ (suc-le-suc (le-trans (top-has n ws k′ first′ last′ h) (top-le n ws first′ last′)))) first′ (omega arith)) last′ w))
+    where
+      go : (isnt (isSpan T first′ last′ and asLarge k first last k′ first′ last′ and hasCore n ws k′ first′ last′) ≡ true) ⊎ (same k first last k′ first′ last′ ≡ true) → (k′ ≡ k) × (first′ ≡ first) × (last′ ≡ last)
+      go (inl x) = absurd (isnt-of _ x (and-in _ _ (and-in _ _ (span-in T first′ last′ m w) (large-in k first last k′ first′ last′ a b c)) h))
+      go (inr x) = same-of k first last k′ first′ last′ x
+
+  pub maximal-in : ((k′ first′ last′ : ℕ) → first′ ≤ last′ → last′ < T → k ≤ k′ → first′ ≤ first → last ≤ last′ → hasCore n ws k′ first′ last′ ≡ true → (k′ ≡ k) × (first′ ≡ first) × (last′ ≡ last))
+      → isMaximal n T ws k first last ≡ true
+  unfolding isMaximal
+  maximal-in f = all-in (suc n) _ (λ k′ a. all-in T _ (λ first′ b. all-in T _ (λ last′ c. go k′ first′ last′ (isSpan T first′ last′ and asLarge k first last k′ first′ last′ and hasCore n ws k′ first′ last′) refl)))
+    where
+      go : (k′ first′ last′ : ℕ) (b : Bool) → (isSpan T first′ last′ and asLarge k first last k′ first′ last′ and hasCore n ws k′ first′ last′) ≡ b
+          → (isnt (isSpan T first′ last′ and asLarge k first last k′ first′ last′ and hasCore n ws k′ first′ last′) or same k first last k′ first′ last′) ≡ true
+      go k′ first′ last′ false e = or-left _ _ (isnt-in _ (λ g. clash g e))
+      go k′ first′ last′ true e =
+          let s = span-of T first′ last′ (and-left _ _ (and-left _ _ e)) in
+          let l = large-of k first last k′ first′ last′ (and-right _ _ (and-left _ _ e)) in
+          let x = f k′ first′ last′ (s .0) (s .1) (l .0) (l .1) (l .2) (and-right _ _ e) in
+          or-right _ _ (rw (x .0, x .1, x .2) (same-in k first last))
+
+-- On a span of the day: a group's order is the largest of the span and above those of the two spans that are one tick longer,
+module _ (n T : ℕ) (ws : List ℕ) (first last : ℕ) (m : first ≤ last) (w : last < T) where
+  pub group-of : (k : ℕ) → isGroup n T ws k first last ≡ true → (k ≡ topOn n ws first last) × (topBefore n ws first last < k) × (topAfter n T ws first last < k)
+  unfolding isGroup
+  group-of k e = (own, before first refl, after (decLt (suc last) T))
+    where
+      l : 1 ≤ k
+      l = leb-true _ _ (and-left _ _ (and-left _ _ e))
+
+      h : hasCore n ws k first last ≡ true
+      h = and-right _ _ (and-left _ _ e)
+
+      x : (k′ first′ last′ : ℕ) → first′ ≤ last′ → last′ < T → k ≤ k′ → first′ ≤ first → last ≤ last′ → hasCore n ws k′ first′ last′ ≡ true → (k′ ≡ k) × (first′ ≡ first) × (last′ ≡ last)
+      x = maximal-of n T ws k first last (and-right _ _ e)
+
+      own : k ≡ topOn n ws first last
+      own =
+          let t = top-has n ws k first last h in
+          sym (x (topOn n ws first last) first last m w t (le-refl first) (le-refl last) (has-top n ws (topOn n ws first last) first last (le-trans l t) (le-refl _)) .0)
+
+      before : (a : ℕ) → first ≡ a → topBefore n ws first last < k
+      before zero f = rw (f, before-none n ws last) l
+      before (suc a) f = rw (f, before-more n ws a last) (below (decLe k (topOn n ws a last)))
+        where
+          below : Dec (k ≤ topOn n ws a last) → topOn n ws a last < k
+          below (yes g) = absurd (let r = x k a last (omega arith) w (le-refl k) (omega arith) (le-refl last) (has-top n ws k a last l g) in omega (arith, r .1))
+          below (no g) = omega arith
+
+      after : Dec (suc last < T) → topAfter n T ws first last < k
+      after (no g) = rw (after-no n T ws first last (omega arith)) l
+      after (yes g) = rw (after-yes n T ws first last g) (below (decLe k (topOn n ws first (suc last))))
+        where
+          below : Dec (k ≤ topOn n ws first (suc last)) → topOn n ws first (suc last) < k
+          below (yes g′) = absurd (let r = x k first (suc last) (omega arith) g (le-refl k) (le-refl first) (omega arith) (has-top n ws k first (suc last) l g′) in omega (arith, r .2))
+          below (no g′) = omega arith
+
+  -- and such an order is a group's.
+  pub group-in : topBefore n ws first last < topOn n ws first last → topAfter n T ws first last < topOn n ws first last → isGroup n T ws (topOn n ws first last) first last ≡ true
+  unfolding isGroup
+  group-in b a =
+      let l : 1 ≤ topOn n ws first last = omega arith in
+      and-in _ _ (and-in _ _ (le-leb _ _ l) (has-top n ws _ first last l (le-refl _))) (maximal-in n T ws _ first last (λ k′ first′ last′ p q u v z h. go k′ first′ last′ q u (eq-or-lt-of-le v) (eq-or-lt-of-le z) h))
+    where
+      before : (f first′ last′ : ℕ) → first ≡ suc f → first′ ≤ f → last ≤ last′ → topOn n ws first′ last′ ≤ topBefore n ws first last
+      before f first′ last′ e g z = rw (e, before-more n ws f last) (top-falls n ws f last first′ last′ g z)
+
+      go : (k′ first′ last′ : ℕ) → last′ < T → topOn n ws first last ≤ k′ → (first′ ≡ first) ⊎ (first′ < first) → (last ≡ last′) ⊎ (last < last′) → hasCore n ws k′ first′ last′ ≡ true
+          → (k′ ≡ topOn n ws first last) × (first′ ≡ first) × (last′ ≡ last)
+      go k′ first′ last′ q u (inl e) (inl f) h =
+          let t : k′ ≤ topOn n ws first last = rw (e, ← f) at (top-has n ws k′ first′ last′ h) in
+          (omega arith, e, sym f)
+      go k′ first′ last′ q u (inl e) (inr f) h =
+          absurd (omega (arith, top-has n ws k′ first′ last′ h, top-falls n ws first (suc last) first′ last′ (omega arith) f, after-yes n T ws first last (omega arith)))
+      go k′ first′ last′ q u (inr e) z h = absurd (longer first refl)
+        where
+          longer : (c : ℕ) → first ≡ c → ⊥
+          longer zero g = omega arith
+          longer (suc c) g = omega (arith, top-has n ws k′ first′ last′ h, before c first′ last′ g (omega arith) (le z))
+            where
+              le : (last ≡ last′) ⊎ (last < last′) → last ≤ last′
+              le (inl y) = omega arith
+              le (inr y) = omega arith
+
+-- the members of the maximal core on a span, where there is one and where there is none
+module _ (n T : ℕ) (ws : List ℕ) (first last : ℕ) where
+  pub members-yes : max (topBefore n ws first last) (topAfter n T ws first last) < topOn n ws first last → groupMembers n T ws first last ≡ coreOn n ws (topOn n ws first last) first last
+  unfolding groupMembers coreOn
+  members-yes h = highest-yes _ _ 0 _ (omega (arith, score-top n ws first last)) ∙ ap (core (spanNeighbours n ws first last) (full n)) (score-top n ws first last)
+
+  pub members-no : topOn n ws first last ≤ max (topBefore n ws first last) (topAfter n T ws first last) → groupMembers n T ws first last ≡ 0
+  unfolding groupMembers
+  members-no h = highest-no _ _ 0 _ (omega (arith, score-top n ws first last))
+
+-- So the groups on a span are the one with these members, of the largest order, if there are any.
+pub groups-on : (n T : ℕ) (ws : List ℕ) (first last : ℕ) → first ≤ last → last < T
+    → groupsOn n T ws first last ≡ keepIf (ltb 0 (groupMembers n T ws first last)) (record { order = topOn n ws first last; first = first; last = last; members = groupMembers n T ws first last } ∷ [])
+unfolding groupsOn hasCore
+groups-on n T ws first last m w = by-cases (decLt (max (topBefore n ws first last) (topAfter n T ws first last)) (topOn n ws first last)) yes′ no′
+  where
+    t : ℕ
+    t = topOn n ws first last
+
+    at : ℕ → List SpanCore
+    at k = keepIf (isGroup n T ws k first last) (record { order = k; first = first; last = last; members = coreOn n ws k first last } ∷ [])
+
+    yes′ : max (topBefore n ws first last) (topAfter n T ws first last) < t
+        → concatBelow (suc n) at ≡ keepIf (ltb 0 (groupMembers n T ws first last)) (record { order = t; first = first; last = last; members = groupMembers n T ws first last } ∷ [])
+    yes′ h =
+        let g = group-in n T ws first last m w (omega arith) (omega arith) in
+        let e = members-yes n T ws first last h in
+        let p : ltb 0 (coreOn n ws t first last) ≡ true = has-core (has-top n ws t first last (omega arith) (le-refl _)) in
+        concat-only (suc n) at t (suc-le-suc (top-le n ws first last)) (λ k l d. keep-nil _ _ (λ f. d (group-of n T ws first last m w k f .0)))
+        ∙ keep-all _ _ g ∙ rw e (sym (keep-all _ _ p))
+      where
+        has-core : hasCore n ws t first last ≡ true → ltb 0 (coreOn n ws t first last) ≡ true
+        has-core f = f
+
+    no′ : (max (topBefore n ws first last) (topAfter n T ws first last) < t → ⊥)
+        → concatBelow (suc n) at ≡ keepIf (ltb 0 (groupMembers n T ws first last)) (record { order = t; first = first; last = last; members = groupMembers n T ws first last } ∷ [])
+    no′ h =
+        let e = members-no n T ws first last (omega arith) in
+        concat-nil (suc n) at (λ k l. keep-nil _ _ (λ f. let r = group-of n T ws first last m w k f in h (omega (arith, r .0, r .1, r .2))))
+        ∙ sym (keep-nil _ _ (λ f. omega (arith, ltb-true 0 (groupMembers n T ws first last) f)))

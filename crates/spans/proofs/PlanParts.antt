@@ -1,0 +1,168 @@
+-- The plan statement holds of the parts that a best list of ends cuts.
+use mathlib.Core.Path.{_≡_, refl, sym, ap, _∙_}
+use mathlib.Core.List.{List, [], _∷_, map, List·Memᴰ·head, List·Memᴰ·tail, List·Memᴰ·cases-cons, List·Memᴰ·not-nil}
+use mathlib.Core.Logic.{⊎-elim}
+use Prim.Native.Nat.{ℕ, zero, suc, _+_, _^_, _≤_, _<_, zero-le}
+use native.Mathlib.Nat.{le-refl}
+use native.Mathlib.Omega.{arith}
+use lib.ListN.{length}
+use Rattle.sets.specs.Sets.{Sub, full}
+use Rattle.sets.specs.Members.{capacity}
+use Rattle.sets.proofs.Sets.{in-full, of-full, lt-of-members}
+use Rattle.records.proofs.WithinLimits.{limits-of}
+use Rattle.cores.specs.Graphs.{LeastDegree}
+use Rattle.cores.specs.Cores.{core}
+use Rattle.cores.proofs.Cores.{core-sub, core-zero}
+use Rattle.cores.proofs.Orders.{member-pos, contains-of, score-best, shown-contain, shown-least}
+use Rattle.cuts.specs.Cuttings.{total, IsBest}
+use Rattle.cuts.proofs.Cuttings.{Cuts, one, more, to-cuts, of-cuts}
+use Rattle.spans.specs.Spans.{SpanOfDay, spanNeighbours}
+use Rattle.spans.specs.SpanCores.{SpanCore, Mem, coreOn}
+use Rattle.spans.specs.Plans.{scoreOn, membersOn, partOn, partsFrom}
+use Rattle.spans.specs.PlanStatement.{LeastOn, Runs, none, run, sumOfOrders, PlanStatement, PlanAsked}
+use Rattle.spans.proofs.OrderSets.{fellows-degree}
+
+-- the members shown at a score are the core of that order: that of order 0 is all n badges
+members-core : (n : ℕ) (ws : List ℕ) (k first last : ℕ) → membersOn n ws k first last ≡ core (spanNeighbours n ws first last) (full n) k
+unfolding membersOn coreOn
+members-core n ws zero first last = sym (core-zero (spanNeighbours n ws first last) (full n))
+members-core n ws (suc k) first last = refl
+
+members-sub : (n : ℕ) (ws : List ℕ) (k first last : ℕ) → Sub (membersOn n ws k first last) (full n)
+members-sub n ws k first last = rw (members-core n ws k first last) (core-sub (spanNeighbours n ws first last) (full n) k)
+
+-- on a span of a day, the least degree by fellow members is that of the span's graph
+module _ {n T : ℕ} {ws : List ℕ} {first last s k : ℕ} (d : SpanOfDay n T ws first last) (w : Sub s (full n)) where
+  pub least-degree : LeastOn n ws first last s k → LeastDegree (spanNeighbours n ws first last) s k
+  least-degree l = let x = l .attained in record {
+    each = λ u i. rw (fellows-degree d s w u i) at (l .each u i);
+    attained = (x .0, x .1, sym (fellows-degree d s w (x .0) (x .1)) ∙ x .2);
+  }
+
+  pub degree-least : LeastDegree (spanNeighbours n ws first last) s k → LeastOn n ws first last s k
+  degree-least l = let x = l .attained in record {
+    each = λ u i. rw (fellows-degree d s w u i) (l .each u i);
+    attained = (x .0, x .1, fellows-degree d s w (x .0) (x .1) ∙ x .2);
+  }
+
+-- what is chosen for a run: a non-empty set of badges that holds the query, and its least degree there
+record Chosen (n : ℕ) (ws : List ℕ) (query : ℕ) (p : SpanCore) : Type 0 where
+  within : Sub (p .members) (full n)
+  some : 0 < p .members
+  holds : Sub query (p .members)
+  least : LeastOn n ws (p .first) (p .last) (p .members) (p .order)
+
+-- on a span of a day, a part's score and members are such,
+part-chosen : {n T : ℕ} {ws : List ℕ} {first last : ℕ} (query : ℕ) → SpanOfDay n T ws first last → Sub query (full n)
+    → Chosen n ws query (partOn n ws query first last)
+unfolding partOn scoreOn
+part-chosen {n} {T} {ws} {first} {last} query d b =
+    let rows = spanNeighbours n ws first last in
+    let p : 0 < full n = member-pos (full n) 0 (in-full n 0 (limits-of (d .lent .limits) .some)) in
+    let e = members-core n ws (scoreOn n ws query first last) first last in
+    let r = contains-of rows (full n) query (scoreOn n ws query first last) (shown-contain rows (full n) query p b) in
+    let w = members-sub n ws (scoreOn n ws query first last) first last in
+    record {
+      within = w;
+      some = rw e (r .0);
+      holds = rw e (r .1);
+      least = degree-least d w (rw e (shown-least rows (full n) query p b));
+    }
+
+-- and no set that holds the query has a larger least degree than the score
+pub order-le : {n T : ℕ} {ws : List ℕ} {first last : ℕ} (query : ℕ) {s k : ℕ} → SpanOfDay n T ws first last → Sub s (full n) → Sub query s
+    → LeastOn n ws first last s k → k ≤ scoreOn n ws query first last
+unfolding scoreOn
+order-le {n} {T} {ws} {first} {last} query {s} {k} d w h l =
+    score-best (spanNeighbours n ws first last) (full n) query s k w h (least-degree d w l)
+
+-- runs end to end stay within the day, so each is a span of it
+runs-fit : {T h t : ℕ} {ps : List SpanCore} → Runs T h t ps → t ≤ T
+runs-fit none = le-refl _
+runs-fit (run l r) = omega (arith, runs-fit r)
+
+runs-span : {T h t : ℕ} {ps : List SpanCore} → Runs T h t ps → (p : SpanCore) → Mem p ps → (p .first ≤ p .last) × (p .last < T)
+runs-span none p i = absurd (List·Memᴰ·not-nil i)
+runs-span (run l r) p i = ⊎-elim (λ e. rw e (l, runs-fit r)) (λ j. runs-span r p j) (List·Memᴰ·cases-cons i)
+
+-- where no run is left, the day is at its end
+runs-none : {T h t : ℕ} {ps : List SpanCore} → Runs T h t ps → h ≡ 0 → (t ≡ T) × (ps ≡ [])
+runs-none none e = (refl, refl)
+runs-none (run l r) e = absurd (omega arith)
+
+-- the last ticks of c + 1 runs have c cuts
+abbrev lasts : List SpanCore → List ℕ
+lasts ps = map (λ (p : SpanCore). p .last) ps
+
+runs-cuts : {T h t : ℕ} {ps : List SpanCore} → Runs T h t ps → (c : ℕ) → h ≡ suc c → Cuts T c t (lasts ps)
+runs-cuts none c e = absurd (omega arith)
+runs-cuts (run l r) zero e = let x = runs-none r (omega arith) in rw (x .1) (one l (x .0))
+runs-cuts (run l r) (suc c) e = more l (runs-cuts r c (omega arith))
+
+-- the sum of orders that are at most the scores of their runs is at most that of the scores
+sum-le : (f : ℕ → ℕ → ℕ) {T h t : ℕ} {ps : List SpanCore} → Runs T h t ps → ((p : SpanCore) → Mem p ps → p .order ≤ f (p .first) (p .last))
+    → sumOfOrders ps ≤ total f t (lasts ps)
+unfolding sumOfOrders total
+sum-le f none k = zero-le
+sum-le f (run {p = p} {ps = ps} l r) k = omega (arith, k p (List·Memᴰ·head refl), sum-le f r (λ q i. k q (List·Memᴰ·tail i)))
+
+-- the parts that a list of ends cuts: as many as the ends, each the part of its run, with members that fit a set; their orders' sum is that of
+-- the scores; those of a list with c cuts are c + 1 runs
+module _ (n : ℕ) (ws : List ℕ) (query : ℕ) where
+  pub parts-length : (t : ℕ) (ends : List ℕ) → length (partsFrom n ws query t ends) ≡ length ends
+  unfolding partsFrom
+  parts-length t [] = refl
+  parts-length t (e ∷ es) = ap suc (parts-length (suc e) es)
+
+  parts-are : (t : ℕ) (ends : List ℕ) (p : SpanCore) → Mem p (partsFrom n ws query t ends) → p ≡ partOn n ws query (p .first) (p .last)
+  unfolding partsFrom partOn
+  parts-are t [] p i = absurd (List·Memᴰ·not-nil i)
+  parts-are t (e ∷ es) p i = ⊎-elim (λ q. rw q) (parts-are (suc e) es p) (List·Memᴰ·cases-cons i)
+
+  pub parts-small : (t : ℕ) (ends : List ℕ) → n ≤ capacity → (p : SpanCore) → Mem p (partsFrom n ws query t ends) → p .members < 2 ^ capacity
+  unfolding partOn
+  parts-small t ends w p i =
+      rw (parts-are t ends p i)
+      (lt-of-members capacity _ (λ u j. omega (arith, of-full n u (members-sub n ws (scoreOn n ws query (p .first) (p .last)) (p .first) (p .last) .at u j))))
+
+  parts-sum : (t : ℕ) (ends : List ℕ) → sumOfOrders (partsFrom n ws query t ends) ≡ total (scoreOn n ws query) t ends
+  unfolding partsFrom partOn sumOfOrders total
+  parts-sum t [] = refl
+  parts-sum t (e ∷ es) = ap (λ (x : ℕ). scoreOn n ws query t e + x) (parts-sum (suc e) es)
+
+  parts-runs : {T c t : ℕ} {ends : List ℕ} → Cuts T c t ends → Runs T (suc c) t (partsFrom n ws query t ends)
+  unfolding partsFrom partOn
+  parts-runs {T} (one {t} {e} l q) = let z : Runs T 0 (suc e) [] = rw q none in run {p = partOn n ws query t e} l z
+  parts-runs (more {c} {t} {e} l r) = run {p = partOn n ws query t e} l (parts-runs r)
+
+-- The plan statement holds of the parts that a best list of ends cuts.
+pub parts-stated : {n T : ℕ} {ws : List ℕ} {query h : ℕ} → PlanAsked n T ws query h → (ends : List ℕ) → IsBest (scoreOn n ws query) T h ends
+    → PlanStatement n T ws (full n) query h (partsFrom n ws query 0 ends)
+parts-stated {n} {T} {ws} {query} {h} a ends b = go h refl
+  where
+    span : {first last : ℕ} → (first ≤ last) × (last < T) → SpanOfDay n T ws first last
+    span x = record { lent = a .lent; rising = x .0; inside = x .1 }
+
+    go : (k : ℕ) → h ≡ k → PlanStatement n T ws (full n) query h (partsFrom n ws query 0 ends)
+    go zero e = absurd (omega (arith, a .some))
+    go (suc c) e = rw e (record {
+      cutting = record {
+        runs = runs;
+        within = λ p i. chosen p i .within;
+        some = λ p i. chosen p i .some;
+        holds = λ p i. chosen p i .holds;
+        least = λ p i. chosen p i .least;
+      };
+      greatest = λ others x. omega (
+        arith,
+        parts-sum n ws query 0 ends,
+        sum-le (scoreOn n ws query) (x .runs) (λ p i. order-le query (span (runs-span (x .runs) p i)) (x .within p i) (x .holds p i) (x .least p i)),
+        b .greatest (lasts others) (rw e (of-cuts (runs-cuts (x .runs) c refl))),
+      );
+    })
+      where
+        runs : Runs T (suc c) 0 (partsFrom n ws query 0 ends)
+        runs = parts-runs n ws query (to-cuts (rw e at (b .cutting)))
+
+        chosen : (p : SpanCore) → Mem p (partsFrom n ws query 0 ends) → Chosen n ws query p
+        chosen p i = rw (parts-are n ws query 0 ends p i) (part-chosen query (span (runs-span runs p i)) (a .named))

@@ -1,0 +1,43 @@
+-- Reports and plans in bytes, and the records that such bytes say.
+use mathlib.Core.List.{List, [], _∷_, _++_}
+use Prim.Native.Nat.{ℕ, zero, suc, _-_}
+use lib.ListN.{length, getD, take, drop}
+use Rattle.sets.specs.Bytes.{littleEndian, fromLittleEndian}
+use Rattle.records.specs.declared.record.Record.the-variants.{End}
+use Rattle.records.specs.Records.{encode}
+use Rattle.spans.specs.SpanCores.{SpanCore}
+
+-- a record: its mark, "order, first tick, last tick, members as an 8-byte set with bit u for badge u"
+unfoldable pub encodeCore : ℕ → ℕ → SpanCore → List ℕ
+encodeCore a b c = a ∷ b ∷ c .order ∷ c .first ∷ c .last ∷ littleEndian 8 (c .members)
+
+unfoldable pub encodeCores : ℕ → ℕ → List SpanCore → List ℕ
+encodeCores a b [] = []
+encodeCores a b (c ∷ cs) = encodeCore a b c ++ encodeCores a b cs
+
+-- "A report is RH (n, T), then GR records .., then ED with their count."
+unfoldable pub reportBytes : ℕ → ℕ → List SpanCore → List ℕ
+reportBytes n T groups = (82 ∷ 72 ∷ n ∷ T ∷ []) ++ (encodeCores 71 82 groups ++ encode (End (length groups)))
+
+-- "A plan is PH (n, T, h, query as an 8-byte set), then h PT records laid out as GR with the part's score for the order, then ED with h as
+-- its count."
+unfoldable pub planBytes : ℕ → ℕ → ℕ → ℕ → List SpanCore → List ℕ
+planBytes n T h query parts = (80 ∷ 72 ∷ n ∷ T ∷ h ∷ littleEndian 8 query) ++ (encodeCores 80 84 parts ++ encode (End h))
+
+-- the record that 13 bytes say, and the records that so many times 13 bytes say
+unfoldable pub decodeCore : List ℕ → SpanCore
+decodeCore bytes = record { order = getD bytes 2 0; first = getD bytes 3 0; last = getD bytes 4 0; members = fromLittleEndian (take 8 (drop 5 bytes)) }
+
+unfoldable pub decodeCores : ℕ → List ℕ → List SpanCore
+decodeCores zero bytes = []
+decodeCores (suc count) bytes = decodeCore bytes ∷ decodeCores count (drop 13 bytes)
+
+-- the records of a report, whose number the last four bytes say; those of a plan, likewise
+unfoldable pub recordsAfter : ℕ → List ℕ → List SpanCore
+recordsAfter header bytes = decodeCores (fromLittleEndian (drop (length bytes - 4) bytes)) (drop header bytes)
+
+abbrev pub reportRecords : List ℕ → List SpanCore
+reportRecords bytes = recordsAfter 4 bytes
+
+abbrev pub planRecords : List ℕ → List SpanCore
+planRecords bytes = recordsAfter 13 bytes

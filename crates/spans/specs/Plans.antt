@@ -1,0 +1,36 @@
+-- The shift plan: parts of a day around a query.
+use mathlib.Core.Bool.{Bool}
+use mathlib.Core.List.{List, [], _∷_}
+use Prim.Native.Nat.{ℕ, zero, suc}
+use lib.Dec.{leb}
+use Rattle.sets.specs.Bools.{_and_}
+use Rattle.sets.specs.Sets.{isSub, full}
+use Rattle.cores.specs.Orders.{score}
+use Rattle.spans.specs.Spans.{spanNeighbours}
+use Rattle.spans.specs.SpanCores.{SpanCore, coreOn}
+
+-- "The score of a part is the largest k whose core on that part contains the query, else 0."
+unfoldable pub scoreOn : ℕ → List ℕ → ℕ → ℕ → ℕ → ℕ
+scoreOn n ws query first last = score (spanNeighbours n ws first last) (full n) query
+
+-- "Members are that core; at score 0, all n badges."
+unfoldable pub membersOn : ℕ → List ℕ → ℕ → ℕ → ℕ → ℕ
+membersOn n ws zero first last = full n
+membersOn n ws (suc k) first last = coreOn n ws (suc k) first last
+
+unfoldable pub partOn : ℕ → List ℕ → ℕ → ℕ → ℕ → SpanCore
+partOn n ws query first last =
+    record { order = scoreOn n ws query first last; first = first; last = last; members = membersOn n ws (scoreOn n ws query first last) first last }
+
+-- the parts of the runs of which the first starts at t, and which end at the ticks of the list
+unfoldable pub partsFrom : ℕ → List ℕ → ℕ → ℕ → List ℕ → List SpanCore
+partsFrom n ws query t [] = []
+partsFrom n ws query t (e ∷ es) = partOn n ws query t e ∷ partsFrom n ws query (suc e) es
+
+-- the query names only the day's badges
+unfoldable pub isQuery : ℕ → ℕ → Bool
+isQuery n query = isSub query (full n)
+
+-- there are from 1 to T parts
+unfoldable pub isParts : ℕ → ℕ → Bool
+isParts T h = leb 1 h and leb h T
