@@ -1,9 +1,7 @@
 -- Laws of records that are appended to a buffer: their bytes one after the other, and the loop over the last ticks of the spans with one first tick.
 use mathlib.Core.Path.{_≡_, refl, sym, ap, _∙_, subst}
-use mathlib.Core.Bool.{Bool, true, false}
 use mathlib.Core.List.{List, [], _∷_, _++_, append-assoc, append-nil}
-use Prim.Native.Nat.{ℕ, zero, suc, _+_, _*_, _≤_, _<_}
-use native.Mathlib.Nat.{le-refl, suc-mul}
+use Prim.Native.Nat.{ℕ, _+_, _-_, _*_, _≤_}
 use native.Mathlib.Numerals.{add-one}
 use native.Mathlib.Omega.{arith}
 use lib.Dec.{leb, ltb}
@@ -11,13 +9,13 @@ use lib.ListN.{length, getD, take, length-append}
 use lib.Seq.{length-paste}
 use borrow.Author.Tests.{le-leb, leb-true}
 use Rattle.sets.specs.Tables.{concatBelow, keepIf}
-use Rattle.sets.proofs.Concat.{concat-nil, keep-nil, keep-all}
+use Rattle.sets.proofs.Concat.{concat-nil, keep-nil, keep-all, keep-le, concat-from}
 use Rattle.log.specs.Buffers.{place}
 use Rattle.log.proofs.Delivering.{overwrite-paste, place-fits, take-place}
 use Rattle.spans.specs.SpanCores.{SpanCore}
 use Rattle.spans.specs.Encoding.{encodeCore, encodeCores}
 use Rattle.spans.proofs.Encoding.{encode-core-length, encode-cores-append}
-use Rattle.groups.specs.Appending.{AppendsCores, lineList}
+use Rattle.groups.specs.Appending.{AppendsCores}
 
 module _ {a b header : ℕ} where
   -- nothing is appended
@@ -57,17 +55,6 @@ module _ {a b header : ℕ} where
   unfolding concatBelow
   appends-more f m e g = rw add-one (appends-then e g)
 
--- a test keeps no more than there is, and m lists of at most k records each have at most m * k
-pub keep-le : (t : Bool) (cs : List SpanCore) → length (keepIf t cs) ≤ length cs
-unfolding keepIf
-keep-le true cs = omega arith
-keep-le false cs = omega arith
-
-pub concat-le : (f : ℕ → List SpanCore) (k : ℕ) (m : ℕ) → ((i : ℕ) → i < m → length (f i) ≤ k) → length (concatBelow m f) ≤ m * k
-unfolding concatBelow
-concat-le f k zero h = omega arith
-concat-le f k (suc m) h = omega (arith, length-append (concatBelow m f) (f m), concat-le f k m (λ i l. h i (omega arith)), h m (le-refl _), suc-mul m k)
-
 module _ (orders members : List ℕ) (first : ℕ) where
   -- the record of the span that ends with a tick, and the list of it where that tick is not before the first and there are members
   abbrev pub spanRecord : ℕ → SpanCore
@@ -86,13 +73,9 @@ module _ (orders members : List ℕ) (first : ℕ) where
   line-more {a} {b} {header} last h {i} {j} {k} {x} {y} {z} e f =
       appends-more lineCell last e (subst (λ (cs : List SpanCore). AppendsCores a b header cs j k y z) (sym (keep-all (leb first last) _ (le-leb _ _ h))) f)
 
-  -- there is at most one record for each last tick
-  pub cells-le : (m : ℕ) → length (concatBelow m lineCell) ≤ m
-  cells-le m = omega (arith, concat-le lineCell 1 m (λ i l. cell-le i))
+  -- there is at most one record for each last tick from the first tick on
+  pub cells-le : (m : ℕ) → length (concatBelow m lineCell) ≤ m - first
+  cells-le m = concat-from lineCell first m (λ last h. keep-nil (leb first last) _ (λ e. let l : first ≤ last = leb-true _ _ e in omega arith)) (λ last h. cell-le last)
     where
       cell-le : (last : ℕ) → length (lineCell last) ≤ 1
       cell-le last = omega (arith, keep-le (leb first last) (keepIf (ltb 0 (getD members last 0)) (spanRecord last ∷ [])), keep-le (ltb 0 (getD members last 0)) (spanRecord last ∷ []))
-
-  pub line-le : (T : ℕ) → length (lineList orders members first T) ≤ T
-  unfolding lineList
-  line-le T = cells-le T

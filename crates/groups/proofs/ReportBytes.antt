@@ -1,7 +1,7 @@
 -- Laws of the report as it is encoded: the lines appended so far, and the whole.
 use mathlib.Core.Path.{_≡_, refl, sym, ap, ap₂, _∙_}
 use mathlib.Core.List.{List, [], _∷_, _++_, append-assoc}
-use Prim.Native.Nat.{ℕ, suc, _+_, _*_, _≤_, _<_}
+use Prim.Native.Nat.{ℕ, suc, _+_, _-_, _*_, _≤_, _<_}
 use native.Mathlib.Omega.{arith}
 use lib.ListN.{length, take, replicate}
 use Rattle.sets.specs.Members.{capacity}
@@ -15,28 +15,28 @@ use Rattle.days.specs.Days.{LentDay}
 use Rattle.log.specs.Buffers.{place}
 use Rattle.log.proofs.Delivering.{take-place}
 use Rattle.spans.specs.Reports.{groupsFrom, groupsOf}
-use Rattle.spans.specs.Encoding.{encodeCores, reportBytes}
+use Rattle.spans.specs.Encoding.{maxGroups, maxReportBytes, encodeCores, reportBytes}
+use Rattle.spans.proofs.GroupCount.{groups-before}
 use Rattle.groups.specs.Lines.{LineSizes, LineRows, LineCores, OrdersBefore}
 use Rattle.groups.specs.Appending.{AppendsCores, lineList, LineRoom, EncodesReport}
-use Rattle.groups.proofs.Appended.{appends-none, appends-more, line-le}
+use Rattle.groups.proofs.Appended.{appends-none, appends-more}
 use Rattle.groups.proofs.LineLaws.{line-groups, orders-none, orders-more, line-list}
 
 -- Before the turn of a first tick: the groups of the spans that start before it are appended, and the orders are those of the spans that start
--- one tick before it. There are at most 96 groups a tick.
+-- one tick before it.
 pub record ReportSoFar (n T : ℕ) (ws : List ℕ) (first count : ℕ) (buffer₀ buffer table orders members : List ℕ) : Type 0 where
   pub lent : LentDay n T ws
   pub high : first ≤ T
-  pub room : 10 + 13 * (maxTicks * maxTicks) ≤ length buffer
+  pub room : maxReportBytes ≤ length buffer
   pub table-size : length table ≡ maxTicks * capacity
   pub members-size : length members ≡ maxTicks
   pub before : OrdersBefore n T ws first orders
-  pub few : count ≤ maxTicks * first
   pub appended : AppendsCores 71 82 4 (concatBelow first (groupsFrom n T ws)) 0 count buffer₀ buffer
 
 short : {n T : ℕ} {ws : List ℕ} → LentDay n T ws → T ≤ maxTicks
 short d = limits-of (d .limits) .short
 
-pub so-far-none : (n T : ℕ) (ws buffer : List ℕ) → LentDay n T ws → 10 + 13 * (maxTicks * maxTicks) ≤ length buffer
+pub so-far-none : (n T : ℕ) (ws buffer : List ℕ) → LentDay n T ws → maxReportBytes ≤ length buffer
     → ReportSoFar n T ws 0 0 buffer buffer (replicate 6144 0) (replicate 97 0) (replicate 96 0)
 unfolding concatBelow
 so-far-none n T ws buffer d r = record {
@@ -46,7 +46,6 @@ so-far-none n T ws buffer d r = record {
   table-size = refl;
   members-size = refl;
   before = orders-none n T ws (short d);
-  few = omega arith;
   appended = appends-none;
 }
 
@@ -54,8 +53,12 @@ module _ {n T : ℕ} {ws : List ℕ} {first count : ℕ} {buffer₀ buffer table
   pub so-far-sizes : {table′ : List ℕ} → LineRows n T ws first table′ → LineSizes n T table′ orders members
   so-far-sizes t = record { few = limits-of (s .lent .limits) .few; short = short (s .lent); table-size = t .size; orders-size = s .before .size; members-size = s .members-size }
 
-  pub so-far-count : count ≤ maxTicks * maxTicks
-  so-far-count = omega (arith, s .few, s .high, short (s .lent))
+  -- so far there are so few that one more for each last tick has room
+  so-far-few : count + (T - first) ≤ maxGroups
+  so-far-few = omega (arith, s .appended .number, groups-before n T ws first (s .high) (short (s .lent)))
+
+  pub so-far-count : count ≤ maxGroups
+  so-far-count = omega (arith, so-far-few)
 
   module _ (l : first < T) {table′ orders′ members′ : List ℕ} (t : LineRows n T ws first table′) (c : LineCores n T first table′ orders orders′ members′) where
     pub so-far-room : LineRoom T first count orders′ members′ buffer
@@ -66,7 +69,7 @@ module _ {n T : ℕ} {ws : List ℕ} {first count : ℕ} {buffer₀ buffer table
           orders-size = omega (arith, c .orders-size, s .before .size);
           members-size = omega (arith, c .members-size);
           inside = l;
-          room = omega (arith, s .room, s .few);
+          room = omega (arith, s .room, so-far-few);
         }
 
     pub so-far-next : {count′ : ℕ} {buffer′ : List ℕ} → AppendsCores 71 82 4 (lineList orders′ members′ first T) count count′ buffer buffer′
@@ -82,7 +85,6 @@ module _ {n T : ℕ} {ws : List ℕ} {first count : ℕ} {buffer₀ buffer table
           table-size = t .size;
           members-size = c .members-size;
           before = rw e (orders-more g);
-          few = omega (arith, s .few, a .number, line-le orders′ members′ first T, short (s .lent));
           appended = appends-more (groupsFrom n T ws) first (s .appended) b;
         }
 

@@ -1,24 +1,16 @@
 -- Theorems of the report: the call's promise, as it stands in specs/GroupReports, holds; and what each of its buffers says.
 use mathlib.Core.Path.{_≡_, refl, sym, ap, _∙_}
-use mathlib.Core.Bool.{Bool, true, false}
 use mathlib.Core.List.{List, _++_}
 use mathlib.Core.Logic.{by-cases}
-use Prim.Native.Nat.{ℕ, _*_, _^_, _≤_, _<_}
-use native.Mathlib.Nat.{mul-le-mul-right}
+use Prim.Native.Nat.{ℕ, _^_, _≤_, _<_}
 use native.Mathlib.Decide.{decLt}
 use native.Mathlib.Omega.{arith}
-use lib.Dec.{leb}
 use lib.ListN.{length, take, drop}
 use lib.Pow.{pow-mono}
 use lib.Seq.{take-at}
-use borrow.Author.Tests.{leb-true}
 use Rattle.sets.specs.Sets.{full}
 use Rattle.sets.specs.Members.{capacity}
-use Rattle.sets.specs.Tables.{keepIf}
-use Rattle.sets.proofs.Bools.{clash}
 use Rattle.sets.proofs.Sets.{full-lt, sub-lt}
-use Rattle.sets.proofs.Concat.{keep-nil}
-use Rattle.records.specs.Limits.{maxTicks}
 use Rattle.records.specs.Outcomes.{Outcome, refused, success}
 use Rattle.records.proofs.Outcomes.{refused-success, success-same}
 use Rattle.records.proofs.WithinLimits.{limits-of}
@@ -31,15 +23,14 @@ use Rattle.cores.specs.Cores.{core}
 use Rattle.cores.proofs.Cores.{core-sub}
 use Rattle.spans.specs.Spans.{spanNeighbours}
 use Rattle.spans.specs.SpanCores.{coreOn}
-use Rattle.spans.specs.Reports.{groupsOn, groupsFrom, groupsOf}
+use Rattle.spans.specs.Reports.{groupsOf}
 use Rattle.spans.specs.Encoding.{reportBytes, reportRecords}
 use Rattle.spans.specs.GroupStatement.{GroupStatement}
-use Rattle.spans.proofs.Maximal.{groups-on}
 use Rattle.spans.proofs.Decoding.{report-said}
+use Rattle.spans.proofs.GroupCount.{groups-few}
 use Rattle.spans.proofs.GroupLists.{of-groups, groups-stated}
 use Rattle.groups.specs.Calls.{reportOf}
 use Rattle.groups.specs.GroupReports.{ReportsGroups, Reported}
-use Rattle.groups.proofs.Appended.{keep-le, concat-le}
 
 -- the members of a core of n badges are below 2 ^ n
 pub core-small : (n : ℕ) (ws : List ℕ) (k first last : ℕ) → n ≤ capacity → coreOn n ws k first last < 2 ^ capacity
@@ -47,26 +38,11 @@ unfolding coreOn
 core-small n ws k first last w =
     omega (arith, sub-lt n (core (spanNeighbours n ws first last) (full n) k) (full n) (core-sub (spanNeighbours n ws first last) (full n) k) (full-lt n), pow-mono w)
 
--- a day has at most T * T groups: one for each first and last tick
-pub groups-few : (n T : ℕ) (ws : List ℕ) → length (groupsOf n T ws) ≤ T * T
-unfolding groupsOf groupsFrom
-groups-few n T ws = concat-le (groupsFrom n T ws) T T (λ first l. omega (arith, concat-le (λ last. keepIf (leb first last) (groupsOn n T ws first last)) 1 T (λ last m. cell first last m (leb first last) refl)))
-  where
-    cell : (first last : ℕ) → last < T → (b : Bool) → leb first last ≡ b → length (keepIf (leb first last) (groupsOn n T ws first last)) ≤ 1
-    cell first last m false e = rw (keep-nil (leb first last) (groupsOn n T ws first last) (λ f. clash f e)) (omega arith)
-    cell first last m true e = omega (arith, keep-le (leb first last) (groupsOn n T ws first last), one first last m (leb-true _ _ e))
-      where
-        one : (first last : ℕ) → last < T → first ≤ last → length (groupsOn n T ws first last) ≤ 1
-        one first last m l = rw (groups-on n T ws first last l m) (keep-le _ _)
-
 -- the bytes of a day's report say its groups
 pub groups-said : {n T : ℕ} {ws : List ℕ} → LentDay n T ws → reportRecords (reportBytes n T (groupsOf n T ws)) ≡ groupsOf n T ws
 groups-said {n} {T} {ws} d =
     let l = limits-of (d .limits) in
-    report-said n T (groupsOf n T ws) (λ c i. let s = of-groups n T ws c i in rw (s .members) (core-small n ws (c .order) (c .first) (c .last) (l .few))) (omega (arith, groups-few n T ws, square T (l .short)))
-  where
-    square : (T : ℕ) → T ≤ maxTicks → T * T ≤ maxTicks * maxTicks
-    square T h = omega (arith, mul-le-mul-right T h)
+    report-said n T (groupsOf n T ws) (λ c i. let s = of-groups n T ws c i in rw (s .members) (core-small n ws (c .order) (c .first) (c .last) (l .few))) (omega (arith, groups-few n T ws (l .short)))
 
 -- report: the refusal of the check first, and then its delivery
 module _ (n T : ℕ) (ws buffer : List ℕ) where

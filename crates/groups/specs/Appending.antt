@@ -1,14 +1,14 @@
 -- What the functions that put records into memory promise.
 use mathlib.Core.List.{List, [], _∷_, _++_}
 use mathlib.Core.Path.{_≡_}
-use Prim.Native.Nat.{ℕ, _+_, _*_, _≤_, _<_}
+use Prim.Native.Nat.{ℕ, _+_, _-_, _*_, _≤_, _<_}
 use lib.Dec.{leb, ltb}
 use lib.ListN.{length, getD, take}
 use Rattle.sets.specs.Tables.{concatBelow, keepIf}
 use Rattle.records.specs.Limits.{maxTicks}
 use Rattle.spans.specs.SpanCores.{SpanCore}
 use Rattle.spans.specs.Reports.{groupsOf}
-use Rattle.spans.specs.Encoding.{encodeCores, reportBytes}
+use Rattle.spans.specs.Encoding.{maxGroups, encodeCores, reportBytes}
 
 -- Records with a mark are appended to so many that stand after a header of so many bytes, each in 13 bytes.
 pub record AppendsCores (a b header : ℕ) (cores : List SpanCore) (count count′ : ℕ) (buffer buffer′ : List ℕ) : Type 0 where
@@ -21,16 +21,16 @@ unfoldable pub lineList : List ℕ → List ℕ → ℕ → ℕ → List SpanCor
 lineList orders members first T =
     concatBelow T (λ last. keepIf (leb first last) (keepIf (ltb 0 (getD members last 0)) (record { order = getD orders last 0; first = first; last = last; members = getD members last 0 } ∷ [])))
 
--- sizes that let a line of records be appended: at most one for each last tick
+-- sizes that let a line of records be appended: at most one for each last tick from the first tick on
 pub record LineRoom (T first count : ℕ) (orders members buffer : List ℕ) : Type 0 where
   pub short : T ≤ maxTicks
   pub orders-size : T ≤ length orders
   pub members-size : T ≤ length members
   pub inside : first < T
-  pub room : 4 + 13 * (count + T) ≤ length buffer
+  pub room : 4 + 13 * (count + (T - first)) ≤ length buffer
 
 -- a day's report in the first bytes of a buffer, and how many records it has
 pub record EncodesReport (n T : ℕ) (ws : List ℕ) (count : ℕ) (buffer : List ℕ) : Type 0 where
   pub number : count ≡ length (groupsOf n T ws)
-  pub few : count ≤ maxTicks * maxTicks
+  pub few : count ≤ maxGroups
   pub bytes : take (10 + 13 * count) buffer ≡ reportBytes n T (groupsOf n T ws)

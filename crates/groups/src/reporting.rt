@@ -10,7 +10,7 @@ ghost use Rattle.records.specs.Outcomes.{success};
 ghost use Rattle.days.specs.Days.{LentDay};
 ghost use Rattle.log.specs.Buffers.{deliver};
 ghost use Rattle.spans.specs.Reports.{groupsOf};
-ghost use Rattle.spans.specs.Encoding.{reportBytes};
+ghost use Rattle.spans.specs.Encoding.{maxReportBytes, reportBytes};
 ghost use Rattle.groups.specs.Refusals.{writtenOutcome};
 ghost use Rattle.groups.specs.Appending.{AppendsCores, lineList, LineRoom, EncodesReport};
 ghost use Rattle.groups.specs.Calls.{reportOf};
@@ -67,7 +67,7 @@ fn append_line(
 
 // Encodes the report of a day in a buffer that holds any report, and answers how many groups it has.
 fn encode_report(words: &[u64], n: usize, ticks: usize, buffer: &mut [u8]) -> usize
-    requires { ⌜ LentDay n ticks (now words) × (10 + 13 * (maxTicks * maxTicks) ≤ length (now buffer)) ⌝ }
+    requires { ⌜ LentDay n ticks (now words) × (maxReportBytes ≤ length (now buffer)) ⌝ }
     ensures { λ r. ⌜ EncodesReport n ticks (now (words .entry)) r (now (buffer .exit)) ⌝ }
 {
     let header = [b'R', b'H', n as u8, ticks as u8];
@@ -98,7 +98,7 @@ fn deliver_report(words: &[u64], badges: usize, ticks: usize, buffer: &mut [u8])
     ensures answer { λ r. ⌜ writtenOutcome r ≡ deliver (success (reportBytes badges ticks (groupsOf badges ticks (now (words .entry))))) (now (buffer .entry)) .answer ⌝ }
     ensures leaves { λ _. ⌜ now (buffer .exit) ≡ deliver (success (reportBytes badges ticks (groupsOf badges ticks (now (words .entry))))) (now (buffer .entry)) .buffer ⌝ }
 {
-    let mut bytes = [0u8; 119818];
+    let mut bytes = [0u8; 60538];
     let count = encode_report(words, badges, ticks, &mut bytes);
     delivered(log::deliver(&bytes[..10 + 13 * count], buffer))
 }

@@ -22,7 +22,7 @@ use Rattle.spans.specs.SpanCores.{SpanCore, Mem}
 use Rattle.spans.specs.Reports.{groupsOf}
 use Rattle.spans.specs.Encoding.{encodeCores, reportBytes, decodeCores, recordsAfter}
 use Rattle.spans.specs.GroupStatement.{Has, GroupStatement}
-use Rattle.spans.proofs.Encoding.{encode-cores-length}
+use Rattle.spans.proofs.Encoding.{report-length}
 use Rattle.spans.proofs.Decoding.{last-four}
 use Rattle.spans.proofs.GroupLists.{groups-stated}
 use Rattle.groups.specs.GroupReports.{ReportsGroups}
@@ -118,11 +118,6 @@ fewer = record { order = 2; first = 0; last = 1; members = 3 }
 
 pub fewer-members : (xs : List SpanCore) → GroupStatement 4 3 d1Words (full 4) xs → Mem fewer xs → ⊥
 fewer-members xs s i = not-maximal xs s d1-lent fewer i (λ j. ⊎-elim (λ e. omega arith) (λ e. omega arith) (d1-members fewer j))
-
--- a record of a report has 13 bytes, and header and end have 10
-report-length : (n T : ℕ) (cs : List SpanCore) → length (reportBytes n T cs) ≡ 10 + 13 * length cs
-unfolding reportBytes
-report-length n T cs = omega (arith, length-append (encodeCores 71 82 cs) (encode (End (length cs))), encode-cores-length 71 82 cs, length-encode (End (length cs)))
 
 -- a day without contacts has no groups
 none-still : {call : ℕ → ℕ → List ℕ → List ℕ → Delivered} {groups : ℕ → ℕ → List ℕ → List SpanCore} → ReportsGroups call groups → groups 4 3 still ≡ []

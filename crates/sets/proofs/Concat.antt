@@ -1,11 +1,14 @@
--- Laws of lists one after the other, and of lists kept by a test: when they are empty, and what is in them.
+-- Laws of lists one after the other, and of lists kept by a test: when they are empty, what is in them, and how long they are.
 use mathlib.Core.Path.{_≡_, refl}
 use mathlib.Core.Bool.{Bool, true, false}
 use mathlib.Core.List.{List, [], _++_, append-nil, List·Memᴰ, List·Memᴰ·not-nil, List·Memᴰ·append-cases, Memᴰ·append-left, Memᴰ·append-right}
 use mathlib.Core.Logic.{_⊎_, inl, inr}
-use Prim.Native.Nat.{ℕ, zero, suc, _<_}
-use native.Mathlib.Nat.{le-refl, eq-or-lt-of-le, not-suc-le-zero}
+use Prim.Native.Nat.{ℕ, zero, suc, _+_, _-_, _*_, _≤_, _<_}
+use native.Mathlib.Nat.{le-refl, eq-or-lt-of-le, not-suc-le-zero, suc-mul, mul-suc}
 use native.Mathlib.Omega.{arith}
+use lib.Dec.{leb}
+use lib.ListN.{length, length-append}
+use borrow.Author.Tests.{leb-true, leb-false}
 use Rattle.sets.specs.Tables.{concatBelow, keepIf}
 use Rattle.sets.proofs.Bools.{clash}
 
@@ -75,3 +78,35 @@ module _ {A : Type 0} where
   unfolding concatBelow
   concat-same zero f g e = refl
   concat-same (suc m) f g e = rw (concat-same m f g (λ i l. e i (omega arith)), e m (le-refl _))
+
+  -- how long lists are: one that a test keeps, so many of at most k elements each, so many of at most one from a place on and none before it, and
+  -- m of which the first has at most T elements, the next one fewer, and so on
+  pub keep-le : (t : Bool) (xs : List A) → length (keepIf t xs) ≤ length xs
+  unfolding keepIf
+  keep-le true xs = omega arith
+  keep-le false xs = omega arith
+
+  pub concat-le : (f : ℕ → List A) (k m : ℕ) → ((i : ℕ) → i < m → length (f i) ≤ k) → length (concatBelow m f) ≤ m * k
+  unfolding concatBelow
+  concat-le f k zero h = omega arith
+  concat-le f k (suc m) h = omega (arith, length-append (concatBelow m f) (f m), concat-le f k m (λ i l. h i (omega arith)), h m (le-refl _), suc-mul m k)
+
+  pub concat-from : (f : ℕ → List A) (first m : ℕ) → ((i : ℕ) → i < first → f i ≡ []) → ((i : ℕ) → i < m → length (f i) ≤ 1) → length (concatBelow m f) ≤ m - first
+  unfolding concatBelow
+  concat-from f first zero e h = omega arith
+  concat-from f first (suc m) e h = go (leb first m) refl (concat-from f first m e (λ i l. h i (omega arith)))
+    where
+      go : (b : Bool) → leb first m ≡ b → length (concatBelow m f) ≤ m - first → length (concatBelow m f ++ f m) ≤ suc m - first
+      go true c ih = omega (arith, length-append (concatBelow m f) (f m), leb-true first m c, h m (le-refl _))
+      go false c ih = let l : m < first = leb-false first m c in rw (e m l, append-nil) (omega arith)
+
+  pub concat-triangle : (T : ℕ) (f : ℕ → List A) (m : ℕ) → m ≤ T → ((i : ℕ) → i < m → length (f i) ≤ T - i) → 2 * length (concatBelow m f) + (T - m) * suc (T - m) ≤ T * suc T
+  unfolding concatBelow
+  concat-triangle T f zero h l = let e : T - 0 ≡ T = omega arith in rw e (omega arith)
+  concat-triangle T f (suc m) h l = go (T - suc m) (omega arith) (concat-triangle T f m (omega arith) (λ i k. l i (omega arith)))
+    where
+      go : (d : ℕ) → T - m ≡ suc d → 2 * length (concatBelow m f) + (T - m) * suc (T - m) ≤ T * suc T → 2 * length (concatBelow m f ++ f m) + (T - suc m) * suc (T - suc m) ≤ T * suc T
+      go d e ih =
+          let g : T - suc m ≡ d = omega arith in
+          let k : 2 * length (concatBelow m f) + suc d * suc (suc d) ≤ T * suc T = rw e at ih in
+          rw g (omega (arith, length-append (concatBelow m f) (f m), l m (le-refl _), suc-mul d (suc (suc d)), mul-suc d (suc d)))

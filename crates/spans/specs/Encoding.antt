@@ -7,6 +7,13 @@ use Rattle.records.specs.declared.record.Record.the-variants.{End}
 use Rattle.records.specs.Records.{encode}
 use Rattle.spans.specs.SpanCores.{SpanCore}
 
+-- the most groups of a day, one for each span of 96 ticks, and the bytes of its report
+abbrev pub maxGroups : ℕ
+maxGroups = 4656
+
+abbrev pub maxReportBytes : ℕ
+maxReportBytes = 60538
+
 -- a record: its mark, "order, first tick, last tick, members as an 8-byte set with bit u for badge u"
 unfoldable pub encodeCore : ℕ → ℕ → SpanCore → List ℕ
 encodeCore a b c = a ∷ b ∷ c .order ∷ c .first ∷ c .last ∷ littleEndian 8 (c .members)

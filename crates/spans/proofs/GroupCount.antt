@@ -1,0 +1,54 @@
+-- A day has at most T(T+1)/2 groups, one for each span: at most 4,656, so that 60,538 bytes hold any report.
+use mathlib.Core.Path.{_≡_, refl}
+use mathlib.Core.Bool.{Bool, true, false}
+use mathlib.Core.List.{List, []}
+use Prim.Native.Nat.{ℕ, zero, suc, _+_, _-_, _*_, _≤_, _<_}
+use native.Mathlib.Nat.{le-refl, mul-le-mul, mul-le-mul-left}
+use native.Mathlib.Omega.{arith}
+use lib.Dec.{leb}
+use lib.ListN.{length}
+use borrow.Author.Tests.{leb-true, leb-false}
+use Rattle.sets.specs.Tables.{concatBelow, keepIf}
+use Rattle.sets.proofs.Concat.{keep-nil, keep-le, concat-from, concat-triangle}
+use Rattle.records.specs.Limits.{maxTicks}
+use Rattle.spans.specs.SpanCores.{SpanCore}
+use Rattle.spans.specs.Reports.{groupsOn, groupsFrom, groupsOf}
+use Rattle.spans.specs.Encoding.{maxGroups, maxReportBytes, reportBytes}
+use Rattle.spans.proofs.Maximal.{groups-on}
+use Rattle.spans.proofs.Encoding.{report-length}
+
+module _ (n T : ℕ) (ws : List ℕ) where
+  -- at most one for each last tick from the first tick on
+  pub line-few : (first : ℕ) → length (groupsFrom n T ws first) ≤ T - first
+  unfolding groupsFrom
+  line-few first = concat-from cell first T before (λ last m. one last m (leb first last) refl)
+    where
+      cell : ℕ → List SpanCore
+      cell last = keepIf (leb first last) (groupsOn n T ws first last)
+
+      before : (last : ℕ) → last < first → cell last ≡ []
+      before last h = keep-nil (leb first last) (groupsOn n T ws first last) (λ e. let k : first ≤ last = leb-true first last e in omega arith)
+
+      one : (last : ℕ) → last < T → (b : Bool) → leb first last ≡ b → length (cell last) ≤ 1
+      one last m false e = rw (before last (leb-false first last e)) (omega arith)
+      one last m true e =
+          let single : length (groupsOn n T ws first last) ≤ 1 = rw (groups-on n T ws first last (leb-true first last e) m) (keep-le _ _) in
+          omega (arith, keep-le (leb first last) (groupsOn n T ws first last))
+
+  -- so many of the spans that start before a tick, and one for each last tick from it on, are no more than 4,656
+  pub groups-before : (first : ℕ) → first ≤ T → T ≤ maxTicks → length (concatBelow first (groupsFrom n T ws)) + (T - first) ≤ maxGroups
+  groups-before first h s =
+      let k : suc T ≤ suc maxTicks = omega arith in
+      let double : (T - first) * 2 ≤ (T - first) * suc (T - first) = double-le (T - first) in
+      omega (arith, concat-triangle T (groupsFrom n T ws) first h (λ i l. line-few i), mul-le-mul s k)
+    where
+      double-le : (d : ℕ) → d * 2 ≤ d * suc d
+      double-le zero = omega arith
+      double-le (suc d) = let l : 2 ≤ suc (suc d) = omega arith in mul-le-mul-left (suc d) l
+
+  pub groups-few : T ≤ maxTicks → length (groupsOf n T ws) ≤ maxGroups
+  unfolding groupsOf
+  groups-few s = omega (arith, groups-before T (le-refl T) s)
+
+  pub report-most : T ≤ maxTicks → length (reportBytes n T (groupsOf n T ws)) ≤ maxReportBytes
+  report-most s = omega (arith, report-length n T (groupsOf n T ws), groups-few s)
