@@ -1,0 +1,9 @@
+-- Laws of the definitions in specs/, from the bottom up. Other crates cite Theorems.
+pub mod Digits
+pub mod Appended
+pub mod PrepareCall
+pub mod LinesShown
+pub mod Filling
+pub mod LineLengths
+pub mod Listed
+pub mod Theorems

@@ -1,0 +1,34 @@
+-- What the public functions answer and leave in the slices that were lent.
+use mathlib.Core.List.{List, [], _∷_}
+use Prim.Native.Nat.{ℕ, _-_, _/_}
+use lib.ListN.{getD, drop}
+use Rattle.records.specs.Outcomes.{Outcome, refused, success}
+use Rattle.records.specs.Verdicts.{Values}
+use Rattle.days.specs.Calls.{readOf}
+use Rattle.log.specs.Buffers.{Delivered}
+use Rattle.spans.specs.Encoding.{decodeCores}
+use Rattle.groups.specs.Calls.{reportOf}
+use Rattle.text.specs.Listing.{refusalLine, reportLines}
+
+-- prepare: read the log into the words, and put the report of its day into the buffer
+pub record Prepared : Type 0 where
+  pub answer : Outcome ℕ
+  pub words : List ℕ
+  pub report : List ℕ
+
+unfoldable pub reported : Outcome Values → List ℕ → List ℕ → Delivered
+reported (refused number offset) words report = record { answer = refused number offset; buffer = report }
+reported (success v) words report = reportOf (v .badges) (v .ticks) words report
+
+unfoldable pub prepareOf : List ℕ → List ℕ → List ℕ → Prepared
+prepareOf log words report = record {
+  answer = reported (readOf log words .answer) (readOf log words .words) report .answer;
+  words = readOf log words .words;
+  report = reported (readOf log words .answer) (readOf log words .words) report .buffer;
+}
+
+-- the lines that the answer to prepare shows, with the report that it left: n and T stand in its third and fourth byte, and records of 13 bytes
+-- between a header of 4 bytes and an end of 6
+unfoldable pub shownLines : Outcome ℕ → List ℕ → List (List ℕ)
+shownLines (refused number offset) report = refusalLine number offset ∷ []
+shownLines (success size) report = reportLines (getD report 2 0) (getD report 3 0) (decodeCores ((size - 10) / 13) (drop 4 report))

@@ -1,0 +1,55 @@
+-- The listing of a log, line by line: "First line: n, T, number of groups. Then per group its order, first and last tick, members rising. A
+-- refusal prints `refused N at OFFSET`." Every line ends with a newline.
+use mathlib.Core.List.{List, [], _∷_, _++_, map}
+use Prim.Native.Nat.{ℕ}
+use Prim.Native.Char.{code}
+use lib.ListN.{length}
+use Rattle.sets.specs.Sets.{has}
+use Rattle.sets.specs.Members.{capacity}
+use Rattle.sets.specs.Tables.{concatBelow, keepIf}
+use Rattle.records.specs.declared.record.Record.{Record}
+use Rattle.records.specs.Outcomes.{Outcome, refused, success}
+use Rattle.records.specs.Judging.{judge}
+use Rattle.records.specs.Meaning.{badgesOf, ticksOf}
+use Rattle.days.specs.Days.{dayOf}
+use Rattle.spans.specs.SpanCores.{SpanCore}
+use Rattle.spans.specs.Reports.{groupsOf}
+use Rattle.text.specs.Ascii.{ascii}
+use Rattle.text.specs.Decimal.{decimal}
+
+abbrev pub newline : List ℕ
+newline = code "\n" ∷ []
+
+-- a label and a number after it
+unfoldable pub field : List ℕ → ℕ → List ℕ
+field label n = label ++ decimal n
+
+unfoldable pub headLine : ℕ → ℕ → ℕ → List ℕ
+headLine n T groups = field (ascii "badges ") n ++ (field (ascii " ticks ") T ++ (field (ascii " groups ") groups ++ newline))
+
+-- the members of a set, rising, each after a space
+unfoldable pub memberList : ℕ → List ℕ
+memberList s = concatBelow capacity (λ u. keepIf (has s u) (field (code " " ∷ []) u))
+
+unfoldable pub groupLine : SpanCore → List ℕ
+groupLine c = field (ascii "order ") (c .order) ++ (field (ascii " ticks ") (c .first) ++ (field (ascii " to ") (c .last) ++ (ascii " badges" ++ (memberList (c .members) ++ newline))))
+
+unfoldable pub refusalLine : ℕ → ℕ → List ℕ
+refusalLine number offset = field (ascii "refused ") number ++ (field (ascii " at ") offset ++ newline)
+
+-- the lines of a report: the first, and one for each group
+unfoldable pub reportLines : ℕ → ℕ → List SpanCore → List (List ℕ)
+reportLines n T groups = headLine n T (length groups) ∷ map groupLine groups
+
+-- the lines of a log, by what judging it comes to
+unfoldable pub judgedLines : Outcome (List Record) → List (List ℕ)
+judgedLines (refused number offset) = refusalLine number offset ∷ []
+judgedLines (success rs) = reportLines (badgesOf rs) (ticksOf rs) (groupsOf (badgesOf rs) (ticksOf rs) (dayOf rs))
+
+-- lines end to end, and the listing of a log: its text in bytes
+unfoldable pub joined : List (List ℕ) → List ℕ
+joined [] = []
+joined (l ∷ ls) = l ++ joined ls
+
+unfoldable pub listing : List ℕ → List ℕ
+listing log = joined (judgedLines (judge log))

@@ -1,0 +1,46 @@
+-- What the functions that make a line promise.
+use mathlib.Core.List.{List, _++_}
+use mathlib.Core.Path.{_≡_}
+use Prim.Native.Nat.{ℕ, suc, _+_, _-_, _/_, _≤_, _<_}
+use lib.ListN.{length, take, drop}
+use Rattle.records.specs.Outcomes.{Outcome, refused, success}
+use Rattle.text.specs.Decimal.{decimal}
+use Rattle.text.specs.Pieces.{linesIn, bytesIn}
+
+-- room for any line, and for the digits of any number
+abbrev pub lineRoom : ℕ
+lineRoom = 320
+
+abbrev pub digitRoom : ℕ
+digitRoom = 20
+
+-- the digits of n at the end of a list, from a place on
+pub record Spells (n start : ℕ) (digits : List ℕ) : Type 0 where
+  pub size : length digits ≡ digitRoom
+  pub inside : start < digitRoom
+  pub bytes : drop start digits ≡ decimal n
+
+-- Bytes are appended to so many that stand at the start of a line.
+pub record Appends (bytes : List ℕ) (at at′ : ℕ) (line line′ : List ℕ) : Type 0 where
+  pub end : at′ ≡ at + length bytes
+  pub size : length line′ ≡ length line
+  pub front : take at′ line′ ≡ take at line ++ bytes
+
+-- a line at the start of a buffer
+pub record Makes (bytes : List ℕ) (count : ℕ) (line′ : List ℕ) : Type 0 where
+  pub size : length line′ ≡ lineRoom
+  pub inside : count ≤ lineRoom
+  pub front : take count line′ ≡ bytes
+
+-- how many lines an answer shows: one for a refusal, and else one for each record that the size has room for, and the first
+abbrev pub lineCount : Outcome ℕ → ℕ
+lineCount (refused number offset) = 1
+lineCount (success size) = suc ((size - 10) / 13)
+
+-- Lines from one place up to another stand at the start of a buffer, and as many as fit behind them are still to come.
+pub record Fills (ls : List (List ℕ)) (from next at : ℕ) (buffer buffer′ : List ℕ) : Type 0 where
+  pub size : length buffer′ ≡ length buffer
+  pub inside : at ≤ length buffer
+  pub lines : from + linesIn (length buffer) (drop from ls) ≡ next + linesIn (length buffer - at) (drop next ls)
+  pub bytes : bytesIn (length buffer) (drop from ls) ≡ take at buffer′ ++ bytesIn (length buffer - at) (drop next ls)
+  pub rest : drop at buffer′ ≡ drop at buffer

@@ -1,0 +1,27 @@
+// The call that reads a log and makes the report of its groups.
+ghost use mathlib.Core.Path.{_≡_};
+ghost use Rattle.groups.specs.Refusals.{writtenOutcome};
+ghost use Rattle.text.specs.Calls.{prepareOf};
+use groups::Refusal;
+use groups::Written;
+use groups::report;
+use log::Verdict;
+use log::read;
+
+// Reads a log into the words that are lent, and puts the report of its day's groups into the buffer that is lent. Answers the number of the
+// report's bytes. Refused by what read and report refuse by, and then the buffer is as it was. 6,144 words and 60,538 bytes are enough for
+// every log.
+pub fn prepare(log: &[u8], words: &mut [u64], buffer: &mut [u8]) -> Written
+    ensures answer { λ r. ⌜ writtenOutcome r ≡ prepareOf (now (log .entry)) (now (words .entry)) (now (buffer .entry)) .answer ⌝ }
+    ensures words { λ _. ⌜ now (words .exit) ≡ prepareOf (now (log .entry)) (now (words .entry)) (now (buffer .entry)) .words ⌝ }
+    ensures leaves { λ _. ⌜ now (buffer .exit) ≡ prepareOf (now (log .entry)) (now (words .entry)) (now (buffer .entry)) .report ⌝ }
+{
+    match read(log, words) {
+        Verdict::Refused(refusal) => Written::Refused(Refusal::Log(refusal)),
+        Verdict::Accepted {
+            badges,
+            ticks,
+            contacts: _,
+        } => report(words, badges, ticks, buffer),
+    }
+}

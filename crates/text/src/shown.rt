@@ -1,0 +1,100 @@
+// The lines that an answer shows, by their place.
+ghost use mathlib.Core.Path.{_≡_};
+ghost use mathlib.Core.List.{[]};
+ghost use Prim.Native.Nat.{_+_, _-_, _/_, _^_, _<_};
+ghost use lib.ListN.{length, getD, take, drop};
+ghost use Rattle.sets.specs.Bytes.{fromLittleEndian};
+ghost use Rattle.records.specs.Outcomes.{success};
+ghost use Rattle.spans.specs.Encoding.{decodeCore};
+ghost use Rattle.groups.specs.Refusals.{writtenOutcome};
+ghost use Rattle.text.specs.Listing.{groupLine};
+ghost use Rattle.text.specs.Calls.{shownLines};
+ghost use Rattle.text.specs.Making.{lineRoom, lineCount, Makes};
+use crate::line::group_line;
+use crate::line::head_line;
+use crate::line::refusal_line;
+use groups::Written;
+use sets::BadgeSet;
+
+// The byte at a place, 0 after the last.
+fn byte_at(bytes: &[u8], at: usize) -> u8
+    ensures { λ r. ⌜ r ≡ getD (now (bytes .entry)) at 0 ⌝ }
+{
+    if bytes.len() <= at {
+        return 0;
+    }
+    bytes[at]
+}
+
+// The number that eight bytes say, the lowest first.
+fn word_at(bytes: &[u8], at: usize) -> u64
+    requires { ⌜ at + 8 < 2 ^ 64 ⌝ }
+    ensures { λ r. ⌜ r ≡ fromLittleEndian (take 8 (drop at (now (bytes .entry)))) ⌝ }
+{
+    let mut word: u64 = 0;
+    let mut i: usize = 8;
+    while 0 < i {
+        i -= 1;
+        word = word * 256 + byte_at(bytes, at + i) as u64;
+    }
+    word
+}
+
+// Makes the line of the group whose record stands at a place of a report.
+fn record_line(report: &[u8], at: usize, line: &mut [u8]) -> usize
+    requires { ⌜ (at + 13 < 2 ^ 64) × (length (now line) ≡ lineRoom) ⌝ }
+    ensures { λ r. ⌜ Makes (groupLine (decodeCore (drop at (now (report .entry))))) r (now (line .exit)) ⌝ }
+{
+    let order = byte_at(report, at + 2);
+    let first = byte_at(report, at + 3);
+    let last = byte_at(report, at + 4);
+    let members = BadgeSet::from_word(word_at(report, at + 5));
+    group_line(order, first, last, members, line)
+}
+
+// How many records a report of so many bytes has.
+fn record_count(size: usize) -> usize
+    ensures { λ r. ⌜ r ≡ (size - 10) / 13 ⌝ }
+{
+    if size < 10 {
+        return 0;
+    }
+    (size - 10) / 13
+}
+
+// How many lines an answer shows.
+pub(crate) fn line_count(answer: Written) -> usize
+    ensures { λ r. ⌜ r ≡ lineCount (writtenOutcome answer) ⌝ }
+{
+    match answer {
+        Written::Refused(_) => 1,
+        Written::Bytes(size) => record_count(size) + 1,
+    }
+}
+
+// Makes a line of a report of so many bytes: the first, or that of a record.
+fn report_line(size: usize, report: &[u8], i: usize, line: &mut [u8]) -> usize
+    requires { ⌜ (i < lineCount (success size)) × (length (now line) ≡ lineRoom) ⌝ }
+    ensures { λ r. ⌜ Makes (getD (shownLines (success size) (now (report .entry))) i []) r (now (line .exit)) ⌝ }
+{
+    if i == 0 {
+        return head_line(
+            byte_at(report, 2),
+            byte_at(report, 3),
+            record_count(size),
+            line,
+        );
+    }
+    record_line(report, 13 * i - 9, line)
+}
+
+// Makes the line at a place, of those that an answer shows, and answers how many bytes it has.
+pub(crate) fn make_line(answer: Written, report: &[u8], i: usize, line: &mut [u8]) -> usize
+    requires { ⌜ (i < lineCount (writtenOutcome answer)) × (length (now line) ≡ lineRoom) ⌝ }
+    ensures { λ r. ⌜ Makes (getD (shownLines (writtenOutcome answer) (now (report .entry))) i []) r (now (line .exit)) ⌝ }
+{
+    match answer {
+        Written::Refused(refusal) => refusal_line(refusal.number(), refusal.offset(), line),
+        Written::Bytes(size) => report_line(size, report, i, line),
+    }
+}
