@@ -1,0 +1,43 @@
+// The listing program: reads a log from standard input and writes the listing of its groups, or of its refusal.
+use libc::STDIN_FILENO;
+use libc::STDOUT_FILENO;
+use text::Written;
+use text::lines;
+use text::prepare;
+
+// A line for each of at most 4,656 groups, and the first.
+const MOST_LINES: usize = 4657;
+
+// Writes the next lines from a place on, as many as a buffer holds, and answers the place of the line after them: the same place where
+// there is no line left, or writing fails.
+fn write_some(answer: Written, report: &[u8], from: usize) -> usize {
+    let mut buffer = io::large_buffer();
+    let piece = lines(answer, report, from, &mut buffer);
+    let size = piece.bytes;
+    if !io::write_all(STDOUT_FILENO, &buffer[..size]) {
+        return from;
+    }
+    piece.next
+}
+
+// Writes all lines. A buffer holds at least one of them.
+fn write_listing(answer: Written, report: &[u8]) {
+    let mut from: usize = 0;
+    for _ in 0..MOST_LINES {
+        let next = write_some(answer, report, from);
+        if next == from {
+            return;
+        }
+        from = next;
+    }
+}
+
+// A log has at most 48,010 bytes, so 48,011 tell whether one follows; a day has at most 6,144 words, and a report at most 60,538 bytes.
+fn main() {
+    let mut log = [0u8; 48011];
+    let size = io::read_full(STDIN_FILENO, &mut log);
+    let mut words = [0u64; 6144];
+    let mut report = [0u8; 60538];
+    let answer = prepare(&log[..size], &mut words, &mut report);
+    write_listing(answer, &report);
+}
