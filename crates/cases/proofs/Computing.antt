@@ -1,0 +1,62 @@
+-- All definitions that the rows of the tables compute with, under one name.
+use Prim.Native.Nat.{ℕ}
+use Rattle.sets.specs.Bools.{_and_, _or_, isnt, all}
+use Rattle.sets.specs.Sets.{bit, isSub, intersection, setOf, full, filterIn, filter, sizeIn, size}
+use Rattle.sets.specs.Bytes.{littleEndian, fromLittleEndian}
+use Rattle.sets.specs.Tables.{tabulate, concatBelow, keepIf}
+use Rattle.records.specs.Limits.{withinLimits}
+use Rattle.records.specs.Records.{fieldsOf, encode, encodeAll, isMark, markFrom, recordFrom, decodeMarked, decode}
+use Rattle.records.specs.Outcomes.{refuseIf, andThen}
+use Rattle.records.specs.Judging.{validContact, judgeKind, judgeValues, judgeDecoded, judgeRecord, prepend, judgeIn, judgeFrom, judge}
+use Rattle.records.specs.Meaning.{badgesOf, ticksOf, contactsOf, covers, inContact}
+use Rattle.records.specs.Verdicts.{valuesOf}
+use Rattle.records.specs.Logs.{logRecords}
+use Rattle.days.specs.Days.{neighbours, adjacent, tickWords, dayWords, dayOf, isTick, isDay}
+use Rattle.days.specs.Calls.{readJudged, readOf, checkOf}
+use Rattle.log.specs.Tidy.{runStart, runEnds, runAt, runsOf, rowRuns, tidyContacts, tidyLog}
+use Rattle.log.specs.Buffers.{deliver}
+use Rattle.log.specs.Calls.{tidyBytes, writeOf, tidyBefore9, tidyOf}
+use Rattle.cores.specs.Graphs.{degree}
+use Rattle.cores.specs.Cores.{strip, strips, core}
+use Rattle.cores.specs.Orders.{largest, coreNumber, contains, score}
+use Rattle.cuts.specs.Cuttings.{total}
+use Rattle.cuts.specs.Sums.{firstGreatest, sumWith, bestSum, endAfter, endsFrom, bestEnds}
+use Rattle.spans.specs.Spans.{isSpan, throughout, spanNeighbours}
+use Rattle.spans.specs.SpanCores.{coreOn, hasCore}
+use Rattle.spans.specs.Reports.{asLarge, same, isMaximal, isGroup, groupsOn, groupsFrom, groupsOf}
+use Rattle.spans.specs.Plans.{scoreOn, membersOn, partOn, partsFrom, isQuery, isParts}
+use Rattle.spans.specs.Encoding.{encodeCore, encodeCores, reportBytes, planBytes}
+use Rattle.groups.specs.Calls.{coreNumberBytes, spanJudged, coreNumbersOf, reportOf, planJudged, planOf}
+use Rattle.text.specs.Ascii.{ascii}
+use Rattle.text.specs.Decimal.{decimalIn, decimal}
+use Rattle.text.specs.Listing.{field, headLine, memberList, groupLine, refusalLine, reportLines, judgedLines, joined, listing}
+use Rattle.cases.specs.RecordBytes.{badges, BH, CT, ED, RH, GR, PH, PT}
+use Rattle.cases.specs.Rows.{Holds}
+use Rattle.cases.specs.Table.{sevens, d1Log, d1Words, d1Variant, d1Report, changingLog, changingWords, emptyLog, emptyWords, equalBadges, starred}
+use Rattle.cases.specs.Further.{nestedLog, nestedWords, further}
+use Rattle.cases.proofs.Cuttings.{inFront, cuttingsFrom, cuttings, withSum}
+
+-- sets and lists
+sets-computing : ℕ
+unfolding _and_ _or_ isnt all bit isSub intersection setOf full filterIn filter sizeIn size littleEndian fromLittleEndian tabulate concatBelow keepIf
+sets-computing = 0
+
+-- records, judging a log, days, tidy logs and the calls of the log part
+log-computing : ℕ
+unfolding sets-computing withinLimits fieldsOf encode encodeAll isMark markFrom recordFrom decodeMarked decode refuseIf andThen validContact judgeKind judgeValues judgeDecoded judgeRecord prepend judgeIn judgeFrom judge badgesOf ticksOf contactsOf covers inContact valuesOf logRecords neighbours adjacent tickWords dayWords dayOf isTick isDay runStart runEnds runAt runsOf rowRuns tidyContacts tidyLog deliver readJudged readOf checkOf tidyBytes writeOf tidyBefore9 tidyOf
+log-computing = 0
+
+-- cores, cuttings, and the calls of the group part
+groups-computing : ℕ
+unfolding log-computing degree strip strips core largest coreNumber contains score total firstGreatest sumWith bestSum endAfter endsFrom bestEnds isSpan throughout spanNeighbours coreOn hasCore asLarge same isMaximal isGroup groupsOn groupsFrom groupsOf scoreOn membersOn partOn partsFrom isQuery isParts encodeCore encodeCores reportBytes planBytes coreNumberBytes spanJudged coreNumbersOf reportOf planJudged planOf
+groups-computing = 0
+
+-- the listing
+text-computing : ℕ
+unfolding groups-computing ascii decimalIn decimal field headLine memberList groupLine refusalLine reportLines judgedLines joined listing
+text-computing = 0
+
+-- the tables
+unfoldable pub computing : ℕ
+unfolding text-computing badges BH CT ED RH GR PH PT Holds sevens d1Log d1Words d1Variant d1Report changingLog changingWords emptyLog emptyWords equalBadges starred nestedLog nestedWords further inFront cuttingsFrom cuttings withSum
+computing = 0

@@ -1,0 +1,6 @@
+-- Proofs of the tables in specs/: Cases has the two theorems, and the others what they are made of.
+pub mod Cuttings
+pub mod Plans
+pub mod Tables
+pub mod Computing
+pub mod Cases

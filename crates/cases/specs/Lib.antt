@@ -1,0 +1,6 @@
+-- The worked cases of document 01: what a reader has to believe. `Table` lies beside the paper's section "Day D1 and its neighbours"; proofs are
+-- in proofs/.
+pub mod RecordBytes
+pub mod Rows
+pub mod Table
+pub mod Further

@@ -1,0 +1,41 @@
+-- Records in bytes, as document 01's section "Records" lays them out, and sets by their badges. They are written down here a second time: a
+-- row of the table names no encoder of the calls.
+use mathlib.Core.List.{List, [], _∷_, _++_}
+use Prim.Native.Nat.{ℕ, _+_, _^_}
+use Rattle.text.specs.Ascii.{ascii}
+
+-- the set of these badges, each named once: badge u is bit u
+unfoldable pub badges : List ℕ → ℕ
+badges [] = 0
+badges (u ∷ us) = 2 ^ u + badges us
+
+-- a number below 256 in 4 bytes, and a set of badges below 8 in 8 bytes, the lowest byte first
+abbrev pub in4 : ℕ → List ℕ
+in4 x = x ∷ 0 ∷ 0 ∷ 0 ∷ []
+
+abbrev pub in8 : ℕ → List ℕ
+in8 s = s ∷ 0 ∷ 0 ∷ 0 ∷ 0 ∷ 0 ∷ 0 ∷ 0 ∷ []
+
+-- the records of a log: "BH | n, T", "CT | badge, badge, first tick, last tick", "ED | number of CT records, 4 bytes"
+unfoldable pub BH : ℕ → ℕ → List ℕ
+BH n T = ascii "BH" ++ n ∷ T ∷ []
+
+unfoldable pub CT : ℕ → ℕ → ℕ → ℕ → List ℕ
+CT a b first last = ascii "CT" ++ a ∷ b ∷ first ∷ last ∷ []
+
+unfoldable pub ED : ℕ → List ℕ
+ED count = ascii "ED" ++ in4 count
+
+-- the records of a report: "RH (n, T), then GR records (order, first tick, last tick, members as an 8-byte set with bit u for badge u)"
+unfoldable pub RH : ℕ → ℕ → List ℕ
+RH n T = ascii "RH" ++ n ∷ T ∷ []
+
+unfoldable pub GR : ℕ → ℕ → ℕ → ℕ → List ℕ
+GR order first last members = ascii "GR" ++ order ∷ first ∷ last ∷ in8 members
+
+-- the records of a plan: "PH (n, T, h, query as an 8-byte set), then h PT records laid out as GR with the part's score for the order"
+unfoldable pub PH : ℕ → ℕ → ℕ → ℕ → List ℕ
+PH n T h query = ascii "PH" ++ n ∷ T ∷ h ∷ in8 query
+
+unfoldable pub PT : ℕ → ℕ → ℕ → ℕ → List ℕ
+PT score first last members = ascii "PT" ++ score ∷ first ∷ last ∷ in8 members
