@@ -16,7 +16,7 @@ use Rattle.log.specs.Buffers.{place}
 use Rattle.log.proofs.Delivering.{take-place}
 use Rattle.spans.specs.Reports.{groupsFrom, groupsOf}
 use Rattle.spans.specs.Encoding.{maxGroups, maxReportBytes, encodeCores, reportBytes}
-use Rattle.spans.proofs.GroupCount.{groups-before}
+use Rattle.spans.proofs.MostGroups.{groups-before}
 use Rattle.groups.specs.Lines.{LineSizes, LineRows, LineCores, OrdersBefore}
 use Rattle.groups.specs.Appending.{AppendsCores, lineList, LineRoom, EncodesReport}
 use Rattle.groups.proofs.Appended.{appends-none, appends-more}

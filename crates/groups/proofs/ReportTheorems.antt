@@ -27,7 +27,7 @@ use Rattle.spans.specs.Reports.{groupsOf}
 use Rattle.spans.specs.Encoding.{reportBytes, reportRecords}
 use Rattle.spans.specs.GroupStatement.{GroupStatement}
 use Rattle.spans.proofs.Decoding.{report-said}
-use Rattle.spans.proofs.GroupCount.{groups-few}
+use Rattle.spans.proofs.MostGroups.{groups-few}
 use Rattle.spans.proofs.GroupLists.{of-groups, groups-stated}
 use Rattle.groups.specs.Calls.{reportOf}
 use Rattle.groups.specs.GroupReports.{ReportsGroups, Reported}

@@ -22,8 +22,8 @@ use Rattle.spans.specs.SpanCores.{SpanCore, Mem}
 use Rattle.spans.specs.Reports.{groupsOf}
 use Rattle.spans.specs.Encoding.{encodeCores, reportBytes, decodeCores, recordsAfter}
 use Rattle.spans.specs.GroupStatement.{Has, GroupStatement}
-use Rattle.spans.proofs.Encoding.{report-length}
 use Rattle.spans.proofs.Decoding.{last-four}
+use Rattle.spans.proofs.MostGroups.{report-length}
 use Rattle.spans.proofs.GroupLists.{groups-stated}
 use Rattle.groups.specs.GroupReports.{ReportsGroups}
 use Rattle.promises.proofs.SmallDays.{computing, d1Words, still, d1-lent, still-lent}

@@ -1,15 +1,12 @@
--- Laws of records in bytes: 13 each, one after the other, and a report's length.
+-- Laws of records in bytes: 13 each, one after the other.
 use mathlib.Core.Path.{_≡_, refl}
 use mathlib.Core.List.{List, [], _∷_, _++_, append-assoc}
-use Prim.Native.Nat.{ℕ, _+_, _*_}
+use Prim.Native.Nat.{ℕ, _*_}
 use native.Mathlib.Omega.{arith}
 use lib.ListN.{length, length-append}
 use Rattle.sets.proofs.Bytes.{length-little-endian}
-use Rattle.records.specs.declared.record.Record.the-variants.{End}
-use Rattle.records.specs.Records.{encode}
-use Rattle.records.proofs.Records.{length-encode}
 use Rattle.spans.specs.SpanCores.{SpanCore}
-use Rattle.spans.specs.Encoding.{encodeCore, encodeCores, reportBytes}
+use Rattle.spans.specs.Encoding.{encodeCore, encodeCores}
 
 -- a record has 13 bytes
 pub encode-core-length : (a b : ℕ) (c : SpanCore) → length (encodeCore a b c) ≡ 13
@@ -26,9 +23,3 @@ pub encode-cores-append : (a b : ℕ) (xs ys : List SpanCore) → encodeCores a 
 unfolding encodeCores
 encode-cores-append a b [] ys = refl
 encode-cores-append a b (x ∷ xs) ys = rw (encode-cores-append a b xs ys, append-assoc)
-
--- a report has 10 bytes and 13 for each group
-pub report-length : (n T : ℕ) (groups : List SpanCore) → length (reportBytes n T groups) ≡ 10 + 13 * length groups
-unfolding reportBytes
-report-length n T groups =
-    omega (arith, length-append (encodeCores 71 82 groups) (encode (End (length groups))), encode-cores-length 71 82 groups, length-encode (End (length groups)))

@@ -6,9 +6,10 @@ pub mod OrderSets
 -- records in bytes
 pub mod Encoding
 pub mod Decoding
--- the report: maximal cores, how many there are, and the group statement
+-- the report: maximal cores, and the group statement
 pub mod Maximal
-pub mod GroupCount
 pub mod GroupLists
 -- the plan: parts, and the plan statement
 pub mod PlanParts
+-- how many groups a day has, and how long a report is
+pub mod MostGroups

@@ -24,10 +24,9 @@ use Rattle.log.specs.Buffers.{Delivered}
 use Rattle.spans.specs.SpanCores.{SpanCore, Mem}
 use Rattle.spans.specs.Reports.{groupsOf}
 use Rattle.spans.specs.Encoding.{maxReportBytes, encodeCores, reportBytes}
-use Rattle.spans.proofs.Encoding.{report-length}
 use Rattle.spans.proofs.Decoding.{decode-cores}
 use Rattle.spans.proofs.GroupLists.{of-groups}
-use Rattle.spans.proofs.GroupCount.{report-most}
+use Rattle.spans.proofs.MostGroups.{report-length, report-most}
 use Rattle.groups.proofs.ReportTheorems.{core-small, report-succeeds}
 use Rattle.promises.proofs.ReadTheorems.{accepted-passes}
 use Rattle.promises.proofs.WordsAfter.{groups-head}

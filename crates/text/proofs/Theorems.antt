@@ -21,7 +21,7 @@ use Rattle.spans.specs.SpanCores.{SpanCore, Mem}
 use Rattle.spans.specs.Reports.{groupsOf}
 use Rattle.spans.specs.Encoding.{maxGroups, maxReportBytes}
 use Rattle.spans.proofs.GroupLists.{of-groups, group-parts}
-use Rattle.spans.proofs.GroupCount.{groups-few}
+use Rattle.spans.proofs.MostGroups.{groups-few}
 use Rattle.spans.proofs.Maximal.{top-has, top-le}
 use Rattle.text.specs.Listing.{refusalLine, groupLine, reportLines, judgedLines, joined, listing}
 use Rattle.text.specs.Pieces.{linesIn, bytesIn, pieceOf, pieces}

@@ -6,16 +6,25 @@ use Prim.Native.Nat.{ℕ, zero, suc, _+_, _-_, _*_, _≤_, _<_}
 use native.Mathlib.Nat.{le-refl, mul-le-mul, mul-le-mul-left}
 use native.Mathlib.Omega.{arith}
 use lib.Dec.{leb}
-use lib.ListN.{length}
+use lib.ListN.{length, length-append}
 use borrow.Author.Tests.{leb-true, leb-false}
 use Rattle.sets.specs.Tables.{concatBelow, keepIf}
 use Rattle.sets.proofs.Concat.{keep-nil, keep-le, concat-from, concat-triangle}
+use Rattle.records.specs.declared.record.Record.the-variants.{End}
 use Rattle.records.specs.Limits.{maxTicks}
+use Rattle.records.specs.Records.{encode}
+use Rattle.records.proofs.Records.{length-encode}
 use Rattle.spans.specs.SpanCores.{SpanCore}
 use Rattle.spans.specs.Reports.{groupsOn, groupsFrom, groupsOf}
-use Rattle.spans.specs.Encoding.{maxGroups, maxReportBytes, reportBytes}
+use Rattle.spans.specs.Encoding.{maxGroups, maxReportBytes, encodeCores, reportBytes}
 use Rattle.spans.proofs.Maximal.{groups-on}
-use Rattle.spans.proofs.Encoding.{report-length}
+use Rattle.spans.proofs.Encoding.{encode-cores-length}
+
+-- a report has 10 bytes and 13 for each group
+pub report-length : (n T : ℕ) (groups : List SpanCore) → length (reportBytes n T groups) ≡ 10 + 13 * length groups
+unfolding reportBytes
+report-length n T groups =
+    omega (arith, length-append (encodeCores 71 82 groups) (encode (End (length groups))), encode-cores-length 71 82 groups, length-encode (End (length groups)))
 
 module _ (n T : ℕ) (ws : List ℕ) where
   -- at most one for each last tick from the first tick on
