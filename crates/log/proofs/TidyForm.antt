@@ -2,15 +2,16 @@
 -- and what the list means.
 use mathlib.Core.Path.{_≡_, refl, sym, ap, ap₂, _∙_, subst}
 use mathlib.Core.Bool.{Bool, true, false}
-use mathlib.Core.List.{List, _∷_, _++_, List·Memᴰ·head, List·Memᴰ·tail, List·Memᴰ·not-nil, List·Memᴰ·cases-cons, List·Memᴰ·eq-of-singleton, List·Memᴰ·append-cases}
+use mathlib.Core.List.{List, _∷_, List·Memᴰ·head, List·Memᴰ·tail, List·Memᴰ·not-nil, List·Memᴰ·cases-cons, List·Memᴰ·eq-of-singleton}
 use mathlib.Core.Logic.{_⊎_, inl, inr, _↔_}
 use Prim.Native.Nat.{ℕ, zero, suc, _≤_, _<_}
 use native.Mathlib.Nat.{le-refl, eq-or-lt-of-le}
 use native.Mathlib.Omega.{arith}
 use lib.Dec.{ltb}
 use borrow.Author.Tests.{ltb-true, ltb-false, lt-ltb}
-use Rattle.sets.specs.Tables.{concatBelow, keepIf}
+use Rattle.sets.specs.Tables.{Pairwise, nothing, followed}
 use Rattle.sets.proofs.Concat.{in-concat, of-concat, in-keep, of-keep}
+use Rattle.sets.proofs.Pairwise.{pairwise-one, pairwise-concat, pairwise-keep}
 use Rattle.records.specs.declared.record.Record.{Record}
 use Rattle.records.specs.declared.record.Record.the-variants.{Header, Contact, End}
 use Rattle.records.specs.Judging.{validContact}
@@ -18,7 +19,7 @@ use Rattle.records.specs.Meaning.{covers}
 use Rattle.records.specs.Logs.{Mem, Met}
 use Rattle.records.proofs.Judged.{valid-in}
 use Rattle.records.proofs.Meaning.{Covers, covers-of, covers-in, covers-swap}
-use Rattle.log.specs.Tidy.{Run, IsRun, smallerOf, largerOf, firstOf, Before, by-smaller, by-larger, by-first, Sorted, nothing, followed, IsTidy, runStart, runEnds, runAt, runsOf, rowRuns, tidyContacts}
+use Rattle.log.specs.Tidy.{Run, IsRun, smallerOf, largerOf, firstOf, Before, by-smaller, by-larger, by-first, IsTidy, runStart, runEnds, runAt, runsOf, rowRuns, tidyContacts}
 use Rattle.log.proofs.Runs.{run-of, of-run, in-run, run-gap, run-meet}
 
 -- a record is in the runs of a pair exactly when it is of a run of the pair
@@ -64,46 +65,25 @@ tidy-of n T r c m =
     let y = of-row n T r (x .0) c (x .2) in
     subst (λ (d : Record). IsRun n T (λ t u v. r t u v ≡ true) d) (sym (y .6)) (y .3, y .4, y .5)
 
--- lists are sorted one after the other if each is, and the records of each come before those of the later ones
-sorted-append : {xs ys : List Record} → Sorted xs → Sorted ys → ((c d : Record) → Mem c xs → Mem d ys → Before c d) → Sorted (xs ++ ys)
-sorted-append nothing q h = q
-sorted-append {ys} (followed {c = c} {cs = cs} f p) q h = followed (λ d m. go d (List·Memᴰ·append-cases cs m)) (sorted-append p q (λ x y m k. h x y (List·Memᴰ·tail m) k))
-  where
-    go : (d : Record) → Mem d cs ⊎ Mem d ys → Before c d
-    go d (inl m) = f d m
-    go d (inr m) = h c d (List·Memᴰ·head refl) m
-
-sorted-concat : (m : ℕ) (f : ℕ → List Record) → ((i : ℕ) → i < m → Sorted (f i))
-    → ((i j : ℕ) (c d : Record) → i < j → j < m → Mem c (f i) → Mem d (f j) → Before c d) → Sorted (concatBelow m f)
-unfolding concatBelow
-sorted-concat zero f s g = nothing
-sorted-concat (suc m) f s g = sorted-append (sorted-concat m f (λ i h. s i (omega arith)) (λ i j c d l k. g i j c d l (omega arith))) (s m (le-refl _))
-    (λ c d x y. let z = of-concat m f x in g (z .0) m c d (z .1) (le-refl _) (z .2) y)
-
-sorted-keep : (b : Bool) (cs : List Record) → Sorted cs → Sorted (keepIf b cs)
-unfolding keepIf
-sorted-keep true cs s = s
-sorted-keep false cs s = nothing
-
 -- the runs of a pair are sorted by their ticks, those of a row by the larger badge, and all by the smaller one
-sorted-runs : (T : ℕ) (p : ℕ → Bool) (u v : ℕ) → Sorted (runsOf T p u v)
+sorted-runs : (T : ℕ) (p : ℕ → Bool) (u v : ℕ) → Pairwise Before (runsOf T p u v)
 unfolding runsOf runAt
-sorted-runs T p u v = sorted-concat T (runAt T p u v) (λ t h. sorted-keep (runEnds T p t) _ (followed (λ d m. absurd (List·Memᴰ·not-nil m)) nothing))
-    (λ i j c d l k m m′.
+sorted-runs T p u v = pairwise-concat T (runAt T p u v) (λ t h. pairwise-keep (runEnds T p t) (pairwise-one _))
+    (λ i j l k c d m m′.
     let x = of-run-at T p u v i c (omega arith) m in
     let y = of-run-at T p u v j d k m′ in
     rw (x .2, y .2) (by-first refl refl (omega (arith, x .1 .rising, run-gap T (λ t. p t ≡ true) (x .1) (y .1) l))))
 
-sorted-row : (n T : ℕ) (r : ℕ → ℕ → ℕ → Bool) (u : ℕ) → Sorted (rowRuns n T r u)
+sorted-row : (n T : ℕ) (r : ℕ → ℕ → ℕ → Bool) (u : ℕ) → Pairwise Before (rowRuns n T r u)
 unfolding rowRuns
-sorted-row n T r u = sorted-concat n _ (λ v h. sorted-keep (ltb u v) _ (sorted-runs T (λ t. r t u v) u v)) (λ i j c d l k m m′.
+sorted-row n T r u = pairwise-concat n _ (λ v h. pairwise-keep (ltb u v) (sorted-runs T (λ t. r t u v) u v)) (λ i j l k c d m m′.
     let x = of-runs T (λ t. r t u i) u i c (of-keep (ltb u i) _ m .1) in
     let y = of-runs T (λ t. r t u j) u j d (of-keep (ltb u j) _ m′ .1) in
     rw (x .3, y .3) (by-larger refl l))
 
-sorted-tidy : (n T : ℕ) (r : ℕ → ℕ → ℕ → Bool) → Sorted (tidyContacts n T r)
+sorted-tidy : (n T : ℕ) (r : ℕ → ℕ → ℕ → Bool) → Pairwise Before (tidyContacts n T r)
 unfolding tidyContacts
-sorted-tidy n T r = sorted-concat n (rowRuns n T r) (λ u h. sorted-row n T r u) (λ i j c d l k m m′.
+sorted-tidy n T r = pairwise-concat n (rowRuns n T r) (λ u h. sorted-row n T r u) (λ i j l k c d m m′.
     let x = of-row n T r i c m in
     let y = of-row n T r j d m′ in
     rw (x .6, y .6) (by-smaller l))
@@ -135,11 +115,11 @@ head-once : {c d : Record} {cs : List Record} → ((x : Record) → Mem x cs →
 head-once {c} {d} f m e = let b : Before c c = subst (λ (x : Record). Before c x) e (f d m) in before-asymmetric b b
 
 -- sorted lists with the same records are equal
-same-sorted : {xs ys : List Record} → Sorted xs → Sorted ys → ((x : Record) → Mem x xs ↔ Mem x ys) → xs ≡ ys
+same-sorted : {xs ys : List Record} → Pairwise Before xs → Pairwise Before ys → ((x : Record) → Mem x xs ↔ Mem x ys) → xs ≡ ys
 same-sorted nothing nothing same = refl
-same-sorted nothing (followed {c = d} g q) same = absurd (List·Memᴰ·not-nil (same d .1 (List·Memᴰ·head refl)))
-same-sorted (followed {c = c} f p) nothing same = absurd (List·Memᴰ·not-nil (same c .0 (List·Memᴰ·head refl)))
-same-sorted (followed {c = c} {cs = cs} f p) (followed {c = d} {cs = ds} g q) same =
+same-sorted nothing (followed {x = d} g q) same = absurd (List·Memᴰ·not-nil (same d .1 (List·Memᴰ·head refl)))
+same-sorted (followed {x = c} f p) nothing same = absurd (List·Memᴰ·not-nil (same c .0 (List·Memᴰ·head refl)))
+same-sorted (followed {x = c} {xs = cs} f p) (followed {x = d} {xs = ds} g q) same =
     ap₂ _∷_ heads (same-sorted p q (λ x. (tails f heads (λ y. same y .0) x, tails g (sym heads) (λ y. same y .1) x)))
   where
     heads : c ≡ d

@@ -7,7 +7,7 @@ use mathlib.Core.Path.{_≡_}
 use Prim.Native.Nat.{ℕ, zero, suc, _≤_, _<_}
 use lib.Dec.{ltb}
 use Rattle.sets.specs.Bools.{_and_, isnt}
-use Rattle.sets.specs.Tables.{concatBelow, keepIf}
+use Rattle.sets.specs.Tables.{concatBelow, keepIf, Pairwise}
 use Rattle.records.specs.declared.record.Record.{Record}
 use Rattle.records.specs.declared.record.Record.the-variants.{Header, Contact, End}
 use Rattle.records.specs.Records.{encodeAll}
@@ -50,15 +50,10 @@ pub data Before (c d : Record) : Type 0 where
   by-larger : smallerOf c ≡ smallerOf d → largerOf c < largerOf d → Before c d
   by-first : smallerOf c ≡ smallerOf d → largerOf c ≡ largerOf d → firstOf c < firstOf d → Before c d
 
--- each record comes before all that follow it
-pub data Sorted : List Record → Type 0 where
-  nothing : Sorted []
-  followed : {c : Record} {cs : List Record} → ((d : Record) → Mem d cs → Before c d) → Sorted cs → Sorted (c ∷ cs)
-
--- the contact records of a tidy log: those of the unbroken runs, each once, in order
+-- the contact records of a tidy log: those of the unbroken runs, each once, in order: each comes before all that follow it
 pub record IsTidy (n T : ℕ) (meet : ℕ → ℕ → ℕ → Type 0) (cts : List Record) : Type 0 where
   pub exactly : (c : Record) → Mem c cts ↔ IsRun n T meet c
-  pub sorted : Sorted cts
+  pub sorted : Pairwise Before cts
 
 -- The same as a list that is worked out. The first tick of the unbroken run that leads up to tick t:
 unfoldable pub runStart : (ℕ → Bool) → ℕ → ℕ

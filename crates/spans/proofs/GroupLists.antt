@@ -7,11 +7,11 @@ use native.Mathlib.Omega.{arith}
 use lib.Dec.{leb}
 use borrow.Author.Tests.{leb-true, le-leb, ltb-true, lt-ltb}
 use Rattle.sets.specs.Sets.{Sub, full}
-use Rattle.sets.specs.Tables.{keepIf}
+use Rattle.sets.specs.Tables.{keepIf, Pairwise, nothing}
 use Rattle.sets.proofs.Bools.{clash, and-in, and-left, and-right}
 use Rattle.sets.proofs.Sets.{sub-refl, sub-pos}
 use Rattle.sets.proofs.Concat.{in-concat, of-concat, keep-nil, in-keep, of-keep}
-use Rattle.sets.proofs.Pairwise.{Pairwise, nothing, pairwise-one, pairwise-concat, pairwise-keep, pairwise-two}
+use Rattle.sets.proofs.Pairwise.{pairwise-one, pairwise-concat, pairwise-keep, pairwise-two}
 use Rattle.days.specs.Days.{LentDay}
 use Rattle.cores.proofs.Cores.{core-sub, core-cohesive, core-largest}
 use Rattle.spans.specs.Spans.{SpanOfDay}
