@@ -1,9 +1,10 @@
--- The tables hold: every row, in the order of specs/Table and specs/Further, by computation from the definitions.
+-- The tables hold: every row, in the order of specs/Table, specs/Further and specs/Example, by computation from the definitions.
 use mathlib.Core.Path.{refl}
 use mathlib.Core.List.{[], _∷_}
 use Rattle.cases.specs.Rows.{AllHold}
 use Rattle.cases.specs.Table.{starred}
 use Rattle.cases.specs.Further.{further}
+use Rattle.cases.specs.Example.{example}
 use Rattle.cases.proofs.Plans.{all-best, only-plan, refused-plan}
 use Rattle.cases.proofs.Tables.{none, _then_}
 use Rattle.cases.proofs.Computing.{computing}
@@ -103,4 +104,17 @@ further-holds =
     then refl
     then refl
     then refl
+    then none
+
+pub example-holds : AllHold example
+unfolding computing
+example-holds =
+    refl
+    then refl
+    then refl
+    then refl
+    then refl
+    then refl
+    then all-best refl refl refl
+    then only-plan 4 (0 ∷ 1 ∷ 3 ∷ []) refl (all-best refl refl refl) refl
     then none

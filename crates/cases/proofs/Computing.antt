@@ -34,6 +34,7 @@ use Rattle.cases.specs.RecordBytes.{badges, BH, CT, ED, RH, GR, PH, PT}
 use Rattle.cases.specs.Rows.{Holds}
 use Rattle.cases.specs.Table.{sevens, d1Log, d1Words, d1Variant, d1Report, changingLog, changingWords, emptyLog, emptyWords, equalBadges, starred}
 use Rattle.cases.specs.Further.{nestedLog, nestedWords, further}
+use Rattle.cases.specs.Example.{exampleLog, exampleWords, exampleTidy, example}
 use Rattle.cases.proofs.Cuttings.{inFront, cuttingsFrom, cuttings, withSum}
 
 -- sets and lists
@@ -58,5 +59,5 @@ text-computing = 0
 
 -- the tables
 unfoldable pub computing : ℕ
-unfolding text-computing badges BH CT ED RH GR PH PT Holds sevens d1Log d1Words d1Variant d1Report changingLog changingWords emptyLog emptyWords equalBadges starred nestedLog nestedWords further inFront cuttingsFrom cuttings withSum
+unfolding text-computing badges BH CT ED RH GR PH PT Holds sevens d1Log d1Words d1Variant d1Report changingLog changingWords emptyLog emptyWords equalBadges starred nestedLog nestedWords further exampleLog exampleWords exampleTidy example inFront cuttingsFrom cuttings withSum
 computing = 0

@@ -4,3 +4,4 @@ pub mod RecordBytes
 pub mod Rows
 pub mod Table
 pub mod Further
+pub mod Example

@@ -1,0 +1,37 @@
+-- The worked example of README: a small log made by hand, and what the calls and the listing program make of it. What a row says is in Rows.
+use mathlib.Core.List.{List, [], _∷_, _++_}
+use Prim.Native.Nat.{ℕ}
+use Rattle.records.specs.Outcomes.{success}
+use Rattle.cases.specs.RecordBytes.{badges, BH, CT, ED, RH, GR, PH, PT}
+use Rattle.cases.specs.Rows.{Row, read, tidy, core-numbers, report, plan, plan-ends, listing, length-of}
+use Rattle.cases.specs.Table.{sevens, accepted}
+
+-- five badges, four ticks, in arrival order: 2–0 in ticks 0 to 1, 0–1 in ticks 0 to 2, 1–2 in ticks 0 to 1 and, from the other side, in
+-- tick 2, and 3–4 in ticks 1 to 3
+unfoldable pub exampleLog : List ℕ
+exampleLog = BH 5 4 ++ CT 2 0 0 1 ++ CT 0 1 0 2 ++ CT 1 2 0 1 ++ CT 2 1 2 2 ++ CT 3 4 1 3 ++ ED 5
+
+-- its day in words, tick after tick
+unfoldable pub exampleWords : List ℕ
+exampleWords =
+    (badges (1 ∷ 2 ∷ []) ∷ badges (0 ∷ 2 ∷ []) ∷ badges (0 ∷ 1 ∷ []) ∷ badges [] ∷ badges [] ∷ [])
+    ++ (badges (1 ∷ 2 ∷ []) ∷ badges (0 ∷ 2 ∷ []) ∷ badges (0 ∷ 1 ∷ []) ∷ badges (4 ∷ []) ∷ badges (3 ∷ []) ∷ [])
+    ++ (badges (1 ∷ []) ∷ badges (0 ∷ 2 ∷ []) ∷ badges (1 ∷ []) ∷ badges (4 ∷ []) ∷ badges (3 ∷ []) ∷ [])
+    ++ (badges [] ∷ badges [] ∷ badges [] ∷ badges (4 ∷ []) ∷ badges (3 ∷ []) ∷ [])
+
+-- its tidy log
+unfoldable pub exampleTidy : List ℕ
+exampleTidy = BH 5 4 ++ CT 0 1 0 2 ++ CT 0 2 0 1 ++ CT 1 2 0 2 ++ CT 3 4 1 3 ++ ED 4
+
+unfoldable pub example : List Row
+example =
+    length-of exampleLog 40
+    ∷ read exampleLog (sevens 20) (accepted 5 4 5) exampleWords
+    ∷ tidy exampleLog (sevens 20) (sevens 34) (success 34) exampleWords exampleTidy
+    ∷ core-numbers 5 4 exampleWords 0 1 (sevens 5) (success 5) (2 ∷ 2 ∷ 2 ∷ 0 ∷ 0 ∷ [])
+    ∷ report 5 4 exampleWords (sevens 49) (success 49) (RH 5 4 ++ GR 2 0 1 (badges (0 ∷ 1 ∷ 2 ∷ [])) ++ GR 1 0 2 (badges (0 ∷ 1 ∷ 2 ∷ [])) ++ GR 1 1 3 (badges (3 ∷ 4 ∷ [])) ++ ED 3)
+    ∷ listing exampleLog "badges 5 ticks 4 groups 3\norder 2 ticks 0 to 1 badges 0 1 2\norder 1 ticks 0 to 2 badges 0 1 2\norder 1 ticks 1 to 3 badges 3 4\n"
+    -- badge 1 in three parts: one plan has the greatest sum, 4
+    ∷ plan-ends 5 4 exampleWords (badges (1 ∷ [])) 3 4 ((0 ∷ 1 ∷ 3 ∷ []) ∷ [])
+    ∷ plan 5 4 exampleWords (badges (1 ∷ [])) 3 (sevens 58) (success 58) (PH 5 4 3 (badges (1 ∷ [])) ++ PT 2 0 0 (badges (0 ∷ 1 ∷ 2 ∷ [])) ++ PT 2 1 1 (badges (0 ∷ 1 ∷ 2 ∷ [])) ++ PT 0 2 3 (badges (0 ∷ 1 ∷ 2 ∷ 3 ∷ 4 ∷ [])) ++ ED 3)
+    ∷ []
