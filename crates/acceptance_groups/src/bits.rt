@@ -1,4 +1,4 @@
-// Words bit by bit, and the place of a badge's word in a day.
+// Words bit by bit, sets of badges as words, and the place of a badge's word in a day.
 ghost use Prim.Native.Nat.{_≤_};
 
 // A place that no slice has: a word there is 0, and none is set.
@@ -34,6 +34,23 @@ pub(crate) fn bit(word: u64, v: usize) -> usize
 pub(crate) fn with_bit(word: u64, v: usize, wanted: bool) -> u64 {
     if wanted && v < 64 {
         return word | (1 << v);
+    }
+    word
+}
+
+// A word with bit v turned over, if it is there at all.
+pub(crate) fn turned(word: u64, v: usize) -> u64 {
+    if v < 64 {
+        return word ^ (1 << v);
+    }
+    word
+}
+
+// The set of all n badges.
+pub(crate) fn all_badges(n: usize) -> u64 {
+    let mut word = 0;
+    for v in 0..64usize {
+        word = with_bit(word, v, v < n);
     }
     word
 }

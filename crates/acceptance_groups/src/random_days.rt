@@ -1,34 +1,37 @@
-// Random days on random spans. A pair in contact stays so into the next tick nearly always, so that long spans are not empty.
-ghost use Prim.Native.Nat.{_≤_, _<_};
-use crate::answer::Call;
+// Random days. A pair in contact stays so into the next tick nearly always, so that long spans are not empty.
+ghost use Prim.Native.Nat.{_≤_};
 use crate::bits::bit;
 use crate::bits::place;
 use crate::bits::with_bit;
-use crate::cases::judged;
-use trials::SEED;
-use trials::Tally;
 use trials::draw;
 use trials::set_word;
 use trials::word_at;
 
-// Whether badges u and v are in contact in tick t: in the first tick by a chance of so many in 16; later, if they were in the tick before,
-// nearly always, and else by a chance that is smaller.
+// How contacts begin and end: in the first tick a pair is in contact by a chance of so many in 16, and later it begins to be by as many in some
+// larger number; a contact ends by one in so many.
+struct Odds {
+    chance: usize,
+    begin_in: usize,
+    end_in: usize,
+}
+
+// Whether badges u and v are in contact in tick t.
 fn contact(
     words: &[u64],
     n: usize,
     t: usize,
     u: usize,
     v: usize,
-    chance: usize,
+    odds: Odds,
     state: &mut u64,
 ) -> bool {
     if t == 0 {
-        return draw(state, 16) < chance;
+        return draw(state, 16) < odds.chance;
     }
     if bit(word_at(words, place(t - 1, n, u)), v) == 1 {
-        return draw(state, 64) != 0;
+        return draw(state, odds.end_in) != 0;
     }
-    draw(state, 512) < chance
+    draw(state, odds.begin_in) < odds.chance
 }
 
 // Sets the bit of badge v in the word at a place.
@@ -44,74 +47,34 @@ fn draw_pair(
     t: usize,
     u: usize,
     v: usize,
-    chance: usize,
+    odds: Odds,
     state: &mut u64,
 ) {
-    if v < u && u < n && contact(words, n, t, u, v, chance, state) {
+    if v < u && u < n && contact(words, n, t, u, v, odds, state) {
         set_bit(words, place(t, n, u), v);
         set_bit(words, place(t, n, v), u);
     }
 }
 
-// A random day of n badges and T ticks, in words that are zero.
-fn fill(words: &mut [u64], n: usize, ticks: usize, chance: usize, state: &mut u64)
+// The contacts of n badges in T ticks, in words that are zero. The two words after them are no day's.
+fn fill(words: &mut [u64], n: usize, ticks: usize, odds: Odds, state: &mut u64)
     requires { ⌜ ticks ≤ 96 ⌝ }
 {
     for i in 0..ticks * 4096 {
-        draw_pair(words, n, i / 4096, i / 64 % 64, i % 64, chance, state);
+        draw_pair(words, n, i / 4096, i / 64 % 64, i % 64, odds, state);
     }
+    set_word(words, place(ticks, n, 0), 0xffff_ffff_ffff_ffff);
+    set_word(words, place(ticks, n, 0) + 1, 1);
 }
 
-// A random span of a day, with a few words more lent than the day has, and enough bytes.
-fn random_span(tally: Tally, words: &[u64], n: usize, ticks: usize, state: &mut u64) -> Tally {
-    let first = draw(state, ticks);
-    let call = Call {
-        lent: place(ticks, n, 0) + draw(state, 3),
-        badges: n,
-        ticks,
-        first,
-        last: first + draw(state, ticks - first),
-        room: 64 + draw(state, 17),
-    };
-    judged(tally, words, call)
-}
-
-// The span of all ticks, with nothing lent more.
-fn whole_span(tally: Tally, words: &[u64], n: usize, ticks: usize) -> Tally
-    requires { ⌜ 0 < ticks ⌝ }
+// A random day of n badges and T ticks, in words that are zero, whose contacts end by one in so many.
+pub(crate) fn random_day(words: &mut [u64], n: usize, ticks: usize, end_in: usize, state: &mut u64)
+    requires { ⌜ (ticks ≤ 96) × (end_in ≤ 64) ⌝ }
 {
-    let call = Call {
-        lent: place(ticks, n, 0),
-        badges: n,
-        ticks,
-        first: 0,
-        last: ticks - 1,
-        room: n,
+    let odds = Odds {
+        chance: 1 + draw(state, 16),
+        begin_in: 8 * end_in,
+        end_in,
     };
-    judged(tally, words, call)
-}
-
-// A random day on all its ticks and on three random spans. The words after it are no day's.
-fn random_day(tally: Tally, state: &mut u64) -> Tally {
-    let mut words = [0u64; 6200];
-    let n = 1 + draw(state, 64);
-    let ticks = 1 + draw(state, 96);
-    let chance = 1 + draw(state, 16);
-    fill(&mut words, n, ticks, chance, state);
-    set_word(&mut words, place(ticks, n, 0), 0xffff_ffff_ffff_ffff);
-    set_word(&mut words, place(ticks, n, 0) + 1, 1);
-    let t = whole_span(tally, &words, n, ticks);
-    let t = random_span(t, &words, n, ticks, state);
-    let t = random_span(t, &words, n, ticks, state);
-    random_span(t, &words, n, ticks, state)
-}
-
-// 100 random days.
-pub(crate) fn random() -> Tally {
-    let mut state = SEED;
-    let mut t = Tally::none();
-    for _ in 0..100usize {
-        t = random_day(t, &mut state);
-    }
-    t
+    fill(words, n, ticks, odds, state);
 }

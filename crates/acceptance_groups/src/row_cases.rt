@@ -1,11 +1,10 @@
 // A case of each public function of cores: its answer has to be the second implementation's.
 ghost use Prim.Native.Nat.{_<_};
-use crate::highest::highest_members;
-use crate::highest::highest_order;
+use crate::graphs::induced_rows;
+use crate::graphs::row_table;
+use crate::highest::Core;
+use crate::highest::highest_core;
 use crate::peeling;
-use crate::tables::cut_rows;
-use crate::tables::members;
-use crate::tables::row_table;
 use sets::BadgeSet;
 use trials::Tally;
 use trials::same_bytes;
@@ -15,8 +14,7 @@ use trials::same_words;
 pub(crate) fn peel_case(tally: Tally, rows: [u64; 64], base: u64, order: usize) -> Tally {
     let got = cores::peel(rows, BadgeSet::from_word(base), order);
     let table = row_table(&rows);
-    let set = peeling::core(&table, members(base), order);
-    let expected = cut_rows(&table, &set);
+    let expected = induced_rows(&table, peeling::core(&table, base, order));
     tally.with_case(same_words(&got, &expected))
 }
 
@@ -24,11 +22,11 @@ pub(crate) fn peel_case(tally: Tally, rows: [u64; 64], base: u64, order: usize) 
 pub(crate) fn numbers_case(tally: Tally, rows: [u64; 64], base: u64) -> Tally {
     let got = cores::core_numbers(rows, BadgeSet::from_word(base));
     let table = row_table(&rows);
-    let expected = peeling::core_numbers(&table, members(base));
+    let expected = peeling::core_numbers(&table, base);
     tally.with_case(same_bytes(&got, &expected))
 }
 
-// The core of the largest order above a given one that contains a query.
+// The core of the largest order above a given one that contains a query; that order and no badge where there is none.
 pub(crate) fn highest_case(
     tally: Tally,
     rows: [u64; 64],
@@ -45,7 +43,12 @@ pub(crate) fn highest_case(
         above as u8,
     );
     let table = row_table(&rows);
-    let order = highest_order(&table, members(base), query, above);
-    let expected = highest_members(&table, members(base), above, order);
-    tally.with_case(got.order as usize == order && got.members.to_word() == expected)
+    let none = Core {
+        order: above,
+        members: 0,
+    };
+    let expected = highest_core(&table, base, query, none);
+    tally.with_case(
+        got.order as usize == expected.order && got.members.to_word() == expected.members,
+    )
 }

@@ -3,10 +3,11 @@
 ghost use mathlib.Core.Path.{_≡_};
 ghost use Prim.Native.Nat.{_≤_, _<_};
 ghost use lib.ListN.{length};
-use crate::answer::Call;
 use crate::bits::place;
 use crate::bits::with_bit;
-use crate::cases::known;
+use crate::calls::Lent;
+use crate::calls::Span;
+use crate::judged::known_numbers;
 use crate::row_cases::peel_case;
 use trials::FILLER;
 use trials::Tally;
@@ -87,15 +88,13 @@ fn whole_day(tally: Tally, words: &mut [u64], shape: Shape, last: usize) -> Tall
     requires { ⌜ last < 96 ⌝ }
 {
     fill(words, shape, last + 1);
-    let call = Call {
-        lent: words.len(),
+    let lent = Lent {
+        words: words.len(),
         badges: shape.badges,
         ticks: last + 1,
-        first: 0,
-        last,
         room: 80,
     };
-    known(tally, words, call, wanted(shape))
+    known_numbers(tally, words, lent, Span { first: 0, last }, wanted(shape))
 }
 
 // 64 badges all in contact, in one tick and in 96.

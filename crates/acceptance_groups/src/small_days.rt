@@ -1,124 +1,100 @@
-// Document 01's day D1 on all its spans, and other small days.
-ghost use mathlib.Core.Path.{_≡_};
-ghost use Prim.Native.Nat.{_<_};
-ghost use lib.ListN.{length};
-use crate::answer::Call;
-use crate::cases::judged;
-use crate::cases::known;
+// Small days whose answers are written by hand: a badge that changes its partner, and days without contacts.
+ghost use Prim.Native.Nat.{_≤_, _<_};
+use crate::calls::Call;
+use crate::calls::Lent;
+use crate::calls::Span;
+use crate::calls::all_ticks;
 use crate::cases::padded;
+use crate::cases::written;
+use crate::judged::known_numbers;
 use trials::Tally;
-use trials::set_word;
-use trials::word_at;
+use trials::set_byte;
 
-// D1's words, and two words more that are no day's: n 4, T 3, contacts 0–1, 0–2 and 1–2 in ticks 0 to 1, and 2–3 in ticks 0 to 2.
-pub(crate) const D1: [u64; 14] = [
-    6,
-    5,
-    11,
-    4,
-    6,
-    5,
-    11,
-    4,
-    0,
-    0,
-    8,
-    4,
-    0xffff_ffff_ffff_ffff,
-    1,
-];
+// Three badges of which the first changes its partner: 0–1 in tick 0, 0–2 in tick 1.
+const PARTNERS: [u64; 6] = [2, 1, 0, 4, 0, 1];
 
-// D1's words with one bit turned over, bit v of the word at a place. Past the words none is.
-pub(crate) fn turned_d1(place: usize, v: usize) -> [u64; 14]
-    ensures { λ r. ⌜ 14 ≡ length r ⌝ }
-{
-    let mut words = D1;
-    if v < 64 {
-        let word = word_at(&words, place);
-        set_word(&mut words, place, word ^ (1 << v));
-    }
-    words
-}
-
-// A call with D1's words on a span, with all fourteen words and 80 bytes lent.
-fn d1_call(first: usize, last: usize) -> Call {
-    Call {
-        lent: 14,
-        badges: 4,
-        ticks: 3,
-        first,
-        last,
-        room: 80,
-    }
-}
-
-// D1 on a span, if it is one.
-fn d1_span(tally: Tally, first: usize, last: usize) -> Tally {
-    if last < first {
-        return tally;
-    }
-    let words = D1;
-    judged(tally, &words, d1_call(first, last))
-}
-
-// D1: two spans that document 01 has the numbers of, and all six spans.
-pub(crate) fn d1() -> Tally {
-    let words = D1;
-    let t = known(
-        Tally::none(),
-        &words,
-        d1_call(0, 1),
-        padded(b"\x02\x02\x02\x01", 4),
-    );
-    let mut t = known(t, &words, d1_call(0, 2), padded(b"\x00\x00\x01\x01", 4));
-    for span in 0..9usize {
-        t = d1_span(t, span / 3, span % 3);
-    }
-    t
-}
-
-// The three badges of which the first changes its partner: 0–1 in tick 0, 0–2 in tick 1.
-fn partners(tally: Tally, first: usize, last: usize, numbers: &[u8]) -> Tally {
-    let words = [2u64, 1, 0, 4, 0, 1];
-    let call = Call {
-        lent: 6,
+// What is lent of that day, and so many bytes.
+fn partners_lent(room: usize) -> Lent {
+    Lent {
+        words: 6,
         badges: 3,
         ticks: 2,
-        first,
-        last,
-        room: 3,
-    };
-    known(tally, &words, call, padded(numbers, 3))
+        room,
+    }
+}
+
+// Its core numbers on a span.
+fn partners_numbers(tally: Tally, span: Span, numbers: &[u8]) -> Tally {
+    let words = PARTNERS;
+    known_numbers(tally, &words, partners_lent(3), span, padded(numbers, 3))
 }
 
 // A partner that changes counts for no span that has both ticks.
-pub(crate) fn changed_partners() -> Tally {
-    let t = partners(Tally::none(), 0, 0, b"\x01\x01\x00");
-    let t = partners(t, 1, 1, b"\x01\x00\x01");
-    partners(t, 0, 1, b"\x00\x00\x00")
+pub(crate) fn changed_partners_numbers() -> Tally {
+    let t = partners_numbers(Tally::none(), Span { first: 0, last: 0 }, b"\x01\x01\x00");
+    let t = partners_numbers(t, Span { first: 1, last: 1 }, b"\x01\x00\x01");
+    partners_numbers(t, Span { first: 0, last: 1 }, b"\x00\x00\x00")
 }
 
-// A day of n badges without contacts, whose last tick is given.
-fn no_contacts(tally: Tally, n: usize, last: usize) -> Tally
-    requires { ⌜ last < 96 ⌝ }
+// A group in each tick, and none on both.
+pub(crate) fn changed_partners_report() -> Tally {
+    let words = PARTNERS;
+    written(
+        Tally::none(),
+        &words,
+        partners_lent(36),
+        Call::Report,
+        b"RH\x03\x02\
+        GR\x01\x00\x00\x03\x00\x00\x00\x00\x00\x00\x00\
+        GR\x01\x01\x01\x05\x00\x00\x00\x00\x00\x00\x00\
+        ED\x02\x00\x00\x00",
+    )
+}
+
+// The core numbers of a day without contacts, which are 0, on all its ticks.
+fn no_contacts_numbers(tally: Tally, words: &[u64], n: usize, ticks: usize) -> Tally
+    requires { ⌜ 0 < ticks ⌝ }
 {
-    let words = [0u64; 6144];
-    let call = Call {
-        lent: 6144,
+    let lent = Lent {
+        words: 6144,
         badges: n,
-        ticks: last + 1,
-        first: 0,
-        last,
+        ticks,
         room: n,
     };
-    known(tally, &words, call, padded(&[0; 64], n))
+    let wanted = padded(&[0; 64], n);
+    known_numbers(tally, words, lent, all_ticks(ticks), wanted)
 }
 
-// Days without contacts of every n, and of T 1 and 96.
-pub(crate) fn without_contacts() -> Tally {
+// The report of a day without contacts, which has no group.
+fn no_contacts_report(tally: Tally, words: &[u64], n: usize, ticks: usize) -> Tally {
+    let lent = Lent {
+        words: 6144,
+        badges: n,
+        ticks,
+        room: 10,
+    };
+    let mut bytes = [b'R', b'H', 0, 0, b'E', b'D', 0, 0, 0, 0];
+    set_byte(&mut bytes, 2, n);
+    set_byte(&mut bytes, 3, ticks);
+    written(tally, words, lent, Call::Report, &bytes)
+}
+
+// The one or the other, of n badges and T ticks.
+fn no_contacts(tally: Tally, n: usize, ticks: usize, report: bool) -> Tally
+    requires { ⌜ 0 < ticks ⌝ }
+{
+    let words = [0u64; 6144];
+    if report {
+        return no_contacts_report(tally, &words, n, ticks);
+    }
+    no_contacts_numbers(tally, &words, n, ticks)
+}
+
+// Days without contacts of every n, and of T 1 and 96: their reports, or their core numbers.
+pub(crate) fn without_contacts(report: bool) -> Tally {
     let mut t = Tally::none();
     for n in 1..65usize {
-        t = no_contacts(no_contacts(t, n, 0), n, 95);
+        t = no_contacts(no_contacts(t, n, 1, report), n, 96, report);
     }
     t
 }

@@ -25,3 +25,7 @@ withinLimits n T = leb 1 n and leb n maxBadges and leb 1 T and leb T maxTicks
 -- how many words a day of n badges and T ticks takes
 abbrev pub wordsFor : ℕ → ℕ → ℕ
 wordsFor n T = T * n
+
+-- the words of the largest day, 64 badges and 96 ticks
+abbrev pub maxWords : ℕ
+maxWords = 6144

@@ -1,4 +1,4 @@
--- Laws of the definitions in specs/, from the bottom up. Other crates cite Theorems.
+-- Laws of the definitions in specs/, from the bottom up. Other crates cite Theorems and Filling.
 pub mod Digits
 pub mod Appended
 pub mod PrepareCall

@@ -6,7 +6,7 @@ use native.Mathlib.Omega.{arith}
 use lib.ListN.{length, drop, length-append}
 use Rattle.records.specs.declared.record.Record.{Record}
 use Rattle.records.specs.declared.record.Record.the-variants.{End}
-use Rattle.records.specs.Limits.{wordsFor}
+use Rattle.records.specs.Limits.{wordsFor, maxWords}
 use Rattle.records.specs.Records.{encode}
 use Rattle.records.specs.Outcomes.{Outcome, refused, success}
 use Rattle.records.specs.Judging.{judge}
@@ -58,7 +58,7 @@ module _ (log : List ℕ) (rs : List Record) (e : judge log ≡ success rs) wher
   unfolding dayOf
   accepted-groups rest = groups-head n T _ _ (λ t u h k. neighbours-append n T (dayOf rs) rest t u (day-length n T (inContact rs)) h k)
 
-  module _ (words report : List ℕ) (h : 6144 ≤ length words) (k : maxReportBytes ≤ length report) where
+  module _ (words report : List ℕ) (h : maxWords ≤ length words) (k : maxReportBytes ≤ length report) where
     abbrev rest : List ℕ
     rest = drop (wordsFor n T) words
 
@@ -84,7 +84,7 @@ module _ (log : List ℕ) (rs : List Record) (e : judge log ≡ success rs) wher
         rw (accepted-made, report-shown n T (groupsOf n T (dayOf rs ++ rest)) (drop (length bytes) report) fits, accepted-groups rest)
 
 -- What prepare leaves shows the lines of the log.
-pub prepared-lines : (log words report : List ℕ) → 6144 ≤ length words → maxReportBytes ≤ length report
+pub prepared-lines : (log words report : List ℕ) → maxWords ≤ length words → maxReportBytes ≤ length report
     → shownLines (prepareOf log words report .answer) (prepareOf log words report .report) ≡ judgedLines (judge log)
 unfolding judgedLines shownLines
 prepared-lines log words report h k = go (judge log) refl
@@ -94,7 +94,7 @@ prepared-lines log words report h k = go (judge log) refl
     go (success rs) e = accepted-prepared log rs e words report h k
 
 -- A refusal that it answers is the log's own: 8 and 9 do not occur.
-pub prepared-refusal : (log words report : List ℕ) (number offset : ℕ) → 6144 ≤ length words → maxReportBytes ≤ length report → prepareOf log words report .answer ≡ refused number offset → judge log ≡ refused number offset
+pub prepared-refusal : (log words report : List ℕ) (number offset : ℕ) → maxWords ≤ length words → maxReportBytes ≤ length report → prepareOf log words report .answer ≡ refused number offset → judge log ≡ refused number offset
 prepared-refusal log words report number offset h k f = go (judge log) refl
   where
     go : (o : Outcome (List Record)) → judge log ≡ o → judge log ≡ refused number offset

@@ -9,6 +9,7 @@ use native.Mathlib.Omega.{arith}
 use lib.ListN.{length, take, drop, length-take, length-drop, take-append-drop, drop-of-length-le}
 use lib.Seq.{take-append-seam, drop-drop}
 use Rattle.records.specs.declared.record.Record.{Record}
+use Rattle.records.specs.Limits.{maxWords}
 use Rattle.records.specs.Outcomes.{Outcome, refused, success}
 use Rattle.records.specs.Judging.{judge}
 use Rattle.records.specs.Meaning.{badgesOf, ticksOf}
@@ -123,9 +124,9 @@ lines-short log = go (judge log) refl
         let limits = limits-of (accepted-of 0 log rs e .limits) in
         record { each = report-line-short (badgesOf rs) (ticksOf rs) (dayOf rs) (limits .few) (limits .short); few = report-lines-few (badgesOf rs) (ticksOf rs) (dayOf rs) (limits .few) (limits .short) }
 
--- THE LISTING IN PIECES. Whatever words, 6,144 or more, and whatever buffer of 60,538 bytes or more were lent to prepare: the pieces that lines gives of
+-- The listing in pieces. Whatever words, 6,144 or more, and whatever buffer of 60,538 bytes or more were lent to prepare: the pieces that lines gives of
 -- what it left, in buffers of 320 bytes or more each, 4,657 buffers or more, are the log's listing.
-pub pieces-listing : (log words report : List ℕ) (buffers : List (List ℕ)) → 6144 ≤ length words → maxReportBytes ≤ length report → ((b : List ℕ) → List·Memᴰ b buffers → lineRoom ≤ length b)
+pub pieces-listing : (log words report : List ℕ) (buffers : List (List ℕ)) → maxWords ≤ length words → maxReportBytes ≤ length report → ((b : List ℕ) → List·Memᴰ b buffers → lineRoom ≤ length b)
     → suc maxGroups ≤ length buffers → pieces (shownLines (prepareOf log words report .answer) (prepareOf log words report .report)) 0 buffers ≡ listing log
 unfolding listing
 pieces-listing log words report buffers h k r c =
@@ -133,5 +134,5 @@ pieces-listing log words report buffers h k r c =
     rw (prepared-lines log words report h k) (pieces-whole lineRoom (judgedLines (judge log)) 0 buffers (s .each) r (omega (arith, s .few)))
 
 -- The refusal that it shows, if it shows one, is by 1 to 7: never by 8 or 9.
-pub never-8-or-9 : (log words report : List ℕ) (number offset : ℕ) → 6144 ≤ length words → maxReportBytes ≤ length report → prepareOf log words report .answer ≡ refused number offset → number ≤ 7
+pub never-8-or-9 : (log words report : List ℕ) (number offset : ℕ) → maxWords ≤ length words → maxReportBytes ≤ length report → prepareOf log words report .answer ≡ refused number offset → number ≤ 7
 never-8-or-9 log words report number offset h k e = judge-number log number offset (prepared-refusal log words report number offset h k e)

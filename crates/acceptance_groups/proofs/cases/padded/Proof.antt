@@ -1,4 +1,4 @@
--- `cases::padded` is safe, and the buffer keeps its length.
+-- `cases::padded` is safe, and its buffer keeps its length.
 use mathlib.Core.Path.{_≡_}
 use Prim.Native.Nat.{_-_}
 use lib.ListN.{length}
@@ -7,10 +7,10 @@ use Rattle.acceptance_groups.proofs.cases.padded.Statement.{statement}
 use Rattle.acceptance_groups.proofs.cases.padded.Tie as tie
 
 abbrev Inv-loop : tie.InvT-loop
-Inv-loop numbers count buffer₀ u₀ buffer u = 80 ≡ length buffer
+Inv-loop bytes count buffer₀ i₀ buffer i = 80 ≡ length buffer
 
 abbrev μ-loop : tie.MeasureT-loop
-μ-loop numbers count buffer₀ u₀ buffer u = count - u
+μ-loop bytes count buffer₀ i₀ buffer i = count - i
 
 loop-holds : tie.Need-loop-holds Inv-loop μ-loop
 loop-holds c = search needs
@@ -24,8 +24,8 @@ byte-at-requires c κs = search needs
 set-byte-requires : tie.Need-set-byte-requires Inv-loop μ-loop
 set-byte-requires c κs = search needs
 
-add-u : tie.Need-add-u Inv-loop μ-loop
-add-u c = search needs
+add-i : tie.Need-add-i Inv-loop μ-loop
+add-i c = search needs
 
 loop-less : tie.Need-loop-less Inv-loop μ-loop
 loop-less c = search needs
@@ -46,7 +46,7 @@ padded-spec =
     slice-aggregate-set-byte
     byte-at-requires
     set-byte-requires
-    add-u
+    add-i
     loop-less
     loop-again
     returns)

@@ -1,14 +1,14 @@
--- `lent::rooms` is safe.
+-- `lent::rooms` is safe, and ends.
 use Prim.Native.Nat.{_-_}
 use borrow.Author.Needs.{needs}
 use Rattle.acceptance_groups.proofs.lent.rooms.Statement.{statement}
 use Rattle.acceptance_groups.proofs.lent.rooms.Tie as tie
 
 abbrev Inv-loop : tie.InvT-loop
-Inv-loop words t₀ room₀ t room = Unit
+Inv-loop call count words t₀ room₀ t room = Unit
 
 abbrev μ-loop : tie.MeasureT-loop
-μ-loop words t₀ room₀ t room = 81 - room
+μ-loop call count words t₀ room₀ t room = 81 - room
 
 none-requires : tie.Need-none-requires Inv-loop μ-loop
 none-requires c κs = search needs
@@ -16,11 +16,14 @@ none-requires c κs = search needs
 loop-holds : tie.Need-loop-holds Inv-loop μ-loop
 loop-holds c = search needs
 
-slice-aggregate-d1-lent : tie.Need-slice-aggregate-d1-lent Inv-loop μ-loop
-slice-aggregate-d1-lent c = search needs
+slice-aggregate-d1-case : tie.Need-slice-aggregate-d1-case Inv-loop μ-loop
+slice-aggregate-d1-case c = search needs
 
 d1-lent-requires : tie.Need-d1-lent-requires Inv-loop μ-loop
 d1-lent-requires c κs = search needs
+
+d1-case-requires : tie.Need-d1-case-requires Inv-loop μ-loop
+d1-case-requires c κs = search needs
 
 add-room : tie.Need-add-room Inv-loop μ-loop
 add-room c = search needs
@@ -42,8 +45,9 @@ rooms-spec =
     μ-loop
     none-requires
     loop-holds
-    slice-aggregate-d1-lent
+    slice-aggregate-d1-case
     d1-lent-requires
+    d1-case-requires
     add-room
     loop-less
     loop-again

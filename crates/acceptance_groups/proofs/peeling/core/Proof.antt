@@ -1,22 +1,17 @@
 -- `peeling::core` is safe, and ends: no more badges are taken out than there are.
-use mathlib.Core.Path.{_≡_}
 use Prim.Native.Nat.{_-_}
-use lib.ListN.{length}
 use borrow.Author.Needs.{needs}
 use Rattle.acceptance_groups.proofs.peeling.core.Statement.{statement}
 use Rattle.acceptance_groups.proofs.peeling.core.Tie as tie
 
 abbrev Inv-loop : tie.InvT-loop
-Inv-loop table k left₀ counter₀ left counter = 64 ≡ length left
+Inv-loop table base k left₀ counter₀ left counter = Unit
 
 abbrev μ-loop : tie.MeasureT-loop
-μ-loop table k left₀ counter₀ left counter = 64 - counter
+μ-loop table base k left₀ counter₀ left counter = 64 - counter
 
 loop-holds : tie.Need-loop-holds Inv-loop μ-loop
 loop-holds c = search needs
-
-slice-aggregate-low-badge : tie.Need-slice-aggregate-low-badge Inv-loop μ-loop
-slice-aggregate-low-badge c = search needs
 
 low-badge-requires : tie.Need-low-badge-requires Inv-loop μ-loop
 low-badge-requires c κs = search needs
@@ -24,11 +19,8 @@ low-badge-requires c κs = search needs
 returns : tie.Need-returns Inv-loop μ-loop
 returns c = search needs
 
-slice-aggregate-set-byte : tie.Need-slice-aggregate-set-byte Inv-loop μ-loop
-slice-aggregate-set-byte c = search needs
-
-set-byte-requires : tie.Need-set-byte-requires Inv-loop μ-loop
-set-byte-requires c κs = search needs
+turned-requires : tie.Need-turned-requires Inv-loop μ-loop
+turned-requires c κs = search needs
 
 add-counter : tie.Need-add-counter Inv-loop μ-loop
 add-counter c = search needs
@@ -49,11 +41,9 @@ core-spec =
     Inv-loop
     μ-loop
     loop-holds
-    slice-aggregate-low-badge
     low-badge-requires
     returns
-    slice-aggregate-set-byte
-    set-byte-requires
+    turned-requires
     add-counter
     loop-less
     loop-again

@@ -1,4 +1,4 @@
--- `peeling::core_numbers` is safe, and there are 64 numbers.
+-- `peeling::core_numbers` is safe, and its numbers stay 64.
 use mathlib.Core.Path.{_≡_}
 use Prim.Native.Nat.{_-_}
 use lib.ListN.{length}
@@ -20,9 +20,6 @@ core-requires c κs = search needs
 
 slice-aggregate-number-members : tie.Need-slice-aggregate-number-members Inv-loop μ-loop
 slice-aggregate-number-members c = search needs
-
-slice-aggregate-number-members-2 : tie.Need-slice-aggregate-number-members-2 Inv-loop μ-loop
-slice-aggregate-number-members-2 c = search needs
 
 number-members-requires : tie.Need-number-members-requires Inv-loop μ-loop
 number-members-requires c κs = search needs
@@ -48,7 +45,6 @@ core-numbers-spec =
     loop-holds
     core-requires
     slice-aggregate-number-members
-    slice-aggregate-number-members-2
     number-members-requires
     add-k
     loop-less

@@ -1,4 +1,4 @@
--- `peeling::degree` is safe: no more are counted than were looked at.
+-- `peeling::degree` is safe: no more than 64 are counted.
 use Prim.Native.Nat.{_≤_, _-_}
 use borrow.Author.Needs.{needs}
 use Rattle.acceptance_groups.proofs.peeling.degree.Statement.{statement}
@@ -13,8 +13,8 @@ abbrev μ-loop : tie.MeasureT-loop
 loop-holds : tie.Need-loop-holds Inv-loop μ-loop
 loop-holds c = search needs
 
-counted-requires : tie.Need-counted-requires Inv-loop μ-loop
-counted-requires c κs = search needs
+joined-requires : tie.Need-joined-requires Inv-loop μ-loop
+joined-requires c κs = search needs
 
 add-count : tie.Need-add-count Inv-loop μ-loop
 add-count c = search needs
@@ -38,7 +38,7 @@ degree-spec =
     Inv-loop
     μ-loop
     loop-holds
-    counted-requires
+    joined-requires
     add-count
     add-v
     loop-less

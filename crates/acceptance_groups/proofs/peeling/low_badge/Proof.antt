@@ -13,8 +13,8 @@ abbrev μ-loop : tie.MeasureT-loop
 loop-holds : tie.Need-loop-holds Inv-loop μ-loop
 loop-holds c = search needs
 
-byte-at-requires : tie.Need-byte-at-requires Inv-loop μ-loop
-byte-at-requires c κs = search needs
+bit-requires : tie.Need-bit-requires Inv-loop μ-loop
+bit-requires c κs = search needs
 
 degree-requires : tie.Need-degree-requires Inv-loop μ-loop
 degree-requires c κs = search needs
@@ -41,7 +41,7 @@ low-badge-spec =
     Inv-loop
     μ-loop
     loop-holds
-    byte-at-requires
+    bit-requires
     degree-requires
     returns
     add-u

@@ -7,10 +7,10 @@ use Rattle.acceptance_groups.proofs.random_days.fill.Statement.{stateme
 use Rattle.acceptance_groups.proofs.random_days.fill.Tie as tie
 
 abbrev Inv-loop : tie.InvT-loop
-Inv-loop words₀ n ticks chance state₀ i₀ i-end words state i = length words ≡ length words₀
+Inv-loop words₀ n ticks odds state₀ i₀ i-end words state i = length words ≡ length words₀
 
 abbrev μ-loop : tie.MeasureT-loop
-μ-loop words₀ n ticks chance state₀ i₀ i-end words state i = i-end - i
+μ-loop words₀ n ticks odds state₀ i₀ i-end words state i = i-end - i
 
 mul-i-end : tie.Need-mul-i-end Inv-loop μ-loop
 mul-i-end c = search needs
@@ -30,6 +30,21 @@ loop-less c = search needs
 loop-again : tie.Need-loop-again Inv-loop μ-loop
 loop-again c = search needs
 
+place-requires : tie.Need-place-requires Inv-loop μ-loop
+place-requires c κs = search needs
+
+set-word-requires : tie.Need-set-word-requires Inv-loop μ-loop
+set-word-requires c κs = search needs
+
+place-requires-2 : tie.Need-place-requires-2 Inv-loop μ-loop
+place-requires-2 c κs = search needs
+
+add-set-word : tie.Need-add-set-word Inv-loop μ-loop
+add-set-word c = search needs
+
+set-word-requires-2 : tie.Need-set-word-requires-2 Inv-loop μ-loop
+set-word-requires-2 c κs = search needs
+
 same-length : tie.Need-same-length Inv-loop μ-loop
 same-length c = search needs
 
@@ -48,5 +63,10 @@ fill-spec =
     add-i
     loop-less
     loop-again
+    place-requires
+    set-word-requires
+    place-requires-2
+    add-set-word
+    set-word-requires-2
     same-length
     returns)

@@ -5,10 +5,10 @@ use Rattle.acceptance_groups.proofs.small_days.without_contacts.Stateme
 use Rattle.acceptance_groups.proofs.small_days.without_contacts.Tie as tie
 
 abbrev Inv-loop : tie.InvT-loop
-Inv-loop t₀ n₀ t n = Unit
+Inv-loop report t₀ n₀ t n = Unit
 
 abbrev μ-loop : tie.MeasureT-loop
-μ-loop t₀ n₀ t n = 65 - n
+μ-loop report t₀ n₀ t n = 65 - n
 
 none-requires : tie.Need-none-requires Inv-loop μ-loop
 none-requires c κs = search needs

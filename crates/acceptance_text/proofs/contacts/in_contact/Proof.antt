@@ -1,0 +1,46 @@
+-- `contacts::in_contact` is safe, and ends.
+use Prim.Native.Nat.{_-_}
+use borrow.Author.Needs.{needs}
+use Rattle.acceptance_text.proofs.contacts.in_contact.Statement.{statement}
+use Rattle.acceptance_text.proofs.contacts.in_contact.Tie as tie
+
+abbrev Inv-loop : tie.InvT-loop
+Inv-loop log contacts u v t k₀ k = Unit
+
+abbrev μ-loop : tie.MeasureT-loop
+μ-loop log contacts u v t k₀ k = contacts - k
+
+loop-holds : tie.Need-loop-holds Inv-loop μ-loop
+loop-holds c = search needs
+
+covers-requires : tie.Need-covers-requires Inv-loop μ-loop
+covers-requires c κs = search needs
+
+returns : tie.Need-returns Inv-loop μ-loop
+returns c = search needs
+
+add-k : tie.Need-add-k Inv-loop μ-loop
+add-k c = search needs
+
+loop-less : tie.Need-loop-less Inv-loop μ-loop
+loop-less c = search needs
+
+loop-again : tie.Need-loop-again Inv-loop μ-loop
+loop-again c = search needs
+
+returns-2 : tie.Need-returns-2 Inv-loop μ-loop
+returns-2 c = search needs
+
+pub in-contact-spec : {M : Type 1} → statement M
+in-contact-spec =
+    tie.close
+    (tie.spec
+    Inv-loop
+    μ-loop
+    loop-holds
+    covers-requires
+    returns
+    add-k
+    loop-less
+    loop-again
+    returns-2)
