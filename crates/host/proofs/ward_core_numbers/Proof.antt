@@ -1,0 +1,22 @@
+-- ward_core_numbers meets its contract: it leaves what core_numbers leaves, and its answer is that call's.
+use mathlib.Core.Path.{ap, _∙_}
+use borrow.Author.Needs.{needs}
+use Rattle.host.specs.Answers.{writtenAnswer}
+use Rattle.host.proofs.ward_core_numbers.Statement.{statement}
+use Rattle.host.proofs.ward_core_numbers.Tie as tie
+
+core-numbers-requires : tie.Need-core-numbers-requires
+core-numbers-requires c κs = search needs
+
+group-answer-requires : tie.Need-group-answer-requires
+group-answer-requires c κs = search needs
+
+same-length : tie.Need-same-length
+same-length c = search needs
+
+returns : tie.Need-returns
+returns c = let r = c .before .before .before .core-numbers .ensures in (c .group-answer .ensures ∙ ap writtenAnswer (r .0), r .1)
+
+pub ward-core-numbers-spec : {M : Type 1} → statement M
+ward-core-numbers-spec =
+    tie.close (tie.spec core-numbers-requires group-answer-requires same-length returns)

@@ -1,0 +1,21 @@
+-- ward_report meets its contract: it leaves what report leaves, and its answer is report's.
+use mathlib.Core.Path.{ap, _∙_}
+use borrow.Author.Needs.{needs}
+use Rattle.host.specs.Answers.{writtenAnswer}
+use Rattle.host.proofs.ward_report.Statement.{statement}
+use Rattle.host.proofs.ward_report.Tie as tie
+
+report-requires : tie.Need-report-requires
+report-requires c κs = search needs
+
+group-answer-requires : tie.Need-group-answer-requires
+group-answer-requires c κs = search needs
+
+same-length : tie.Need-same-length
+same-length c = search needs
+
+returns : tie.Need-returns
+returns c = let r = c .before .before .before .report .ensures in (c .group-answer .ensures ∙ ap writtenAnswer (r .0), (r .1 .0, rw (r .0) at (r .1 .1)))
+
+pub ward-report-spec : {M : Type 1} → statement M
+ward-report-spec = tie.close (tie.spec report-requires group-answer-requires same-length returns)

@@ -1,0 +1,43 @@
+// What a call answered, as five numbers.
+ghost use mathlib.Core.Path.{_≡_};
+ghost use Rattle.records.specs.Verdicts.{verdictOutcome};
+ghost use Rattle.log.specs.Calls as log;
+ghost use Rattle.groups.specs.Refusals as groups;
+ghost use Rattle.host.specs.Answers.{readAnswer, writtenAnswer};
+
+pub(crate) fn read_answer(verdict: log::Verdict) -> [u64; 5]
+    ensures { λ r. ⌜ r ≡ readAnswer (verdictOutcome verdict) ⌝ }
+{
+    match verdict {
+        log::Verdict::Accepted {
+            badges,
+            ticks,
+            contacts,
+        } => [0, 0, badges as u64, ticks as u64, contacts as u64],
+        log::Verdict::Refused(refusal) => {
+            [refusal.number() as u64, refusal.offset() as u64, 0, 0, 0]
+        }
+    }
+}
+
+pub(crate) fn log_answer(written: log::Written) -> [u64; 5]
+    ensures { λ r. ⌜ r ≡ writtenAnswer (log.writtenOutcome written) ⌝ }
+{
+    match written {
+        log::Written::Bytes(count) => [0, 0, 0, 0, count as u64],
+        log::Written::Refused(refusal) => {
+            [refusal.number() as u64, refusal.offset() as u64, 0, 0, 0]
+        }
+    }
+}
+
+pub(crate) fn group_answer(written: groups::Written) -> [u64; 5]
+    ensures { λ r. ⌜ r ≡ writtenAnswer (groups.writtenOutcome written) ⌝ }
+{
+    match written {
+        groups::Written::Bytes(count) => [0, 0, 0, 0, count as u64],
+        groups::Written::Refused(refusal) => {
+            [refusal.number() as u64, refusal.offset() as u64, 0, 0, 0]
+        }
+    }
+}

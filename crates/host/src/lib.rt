@@ -1,0 +1,105 @@
+// The calls for C, and for any language that can call C: each function is thin over one call, and leaves what that call leaves. A slice is a
+// pointer and a length. `include/ward.h` has the prototypes.
+mod answers;
+
+ghost use mathlib.Core.Path.{_≡_};
+ghost use Rattle.days.specs.Calls.{readOf};
+ghost use Rattle.log.specs.Calls.{tidyOf, writeOf};
+ghost use Rattle.groups.specs.Calls.{coreNumbersOf, reportOf};
+ghost use Rattle.groups.specs.GroupReports.{Reported};
+ghost use Rattle.host.specs.Answers.{readAnswer, writtenAnswer};
+ghost use Rattle.host.specs.PlanAnswers.{PlanAnswered};
+use answers::group_answer;
+use answers::log_answer;
+use answers::read_answer;
+use sets::BadgeSet;
+
+// log::read.
+#[no_mangle]
+pub extern "C" fn ward_read(log: &[u8], words: &mut [u64], answer: &mut [u64; 5])
+    ensures answer { λ _. ⌜ now (answer .exit) ≡ readAnswer (readOf (now (log .entry)) (now (words .entry)) .answer) ⌝ }
+    ensures words { λ _. ⌜ now (words .exit) ≡ readOf (now (log .entry)) (now (words .entry)) .words ⌝ }
+{
+    let verdict = log::read(log, words);
+    *answer = read_answer(verdict);
+}
+
+// log::tidy.
+#[no_mangle]
+pub extern "C" fn ward_tidy(log: &[u8], work: &mut [u64], out: &mut [u8], answer: &mut [u64; 5])
+    ensures answer { λ _. ⌜ now (answer .exit) ≡ writtenAnswer (tidyOf (now (log .entry)) (now (work .entry)) (now (out .entry)) .answer) ⌝ }
+    ensures words { λ _. ⌜ now (work .exit) ≡ tidyOf (now (log .entry)) (now (work .entry)) (now (out .entry)) .words ⌝ }
+    ensures leaves { λ _. ⌜ now (out .exit) ≡ tidyOf (now (log .entry)) (now (work .entry)) (now (out .entry)) .buffer ⌝ }
+{
+    let written = log::tidy(log, work, out);
+    *answer = log_answer(written);
+}
+
+// log::write.
+#[no_mangle]
+pub extern "C" fn ward_write(
+    words: &[u64],
+    badges: usize,
+    ticks: usize,
+    out: &mut [u8],
+    answer: &mut [u64; 5],
+)
+    ensures answer { λ _. ⌜ now (answer .exit) ≡ writtenAnswer (writeOf badges ticks (now (words .entry)) (now (out .entry)) .answer) ⌝ }
+    ensures leaves { λ _. ⌜ now (out .exit) ≡ writeOf badges ticks (now (words .entry)) (now (out .entry)) .buffer ⌝ }
+{
+    let written = log::write(words, badges, ticks, out);
+    *answer = log_answer(written);
+}
+
+// groups::core_numbers.
+#[no_mangle]
+pub extern "C" fn ward_core_numbers(
+    words: &[u64],
+    badges: usize,
+    ticks: usize,
+    first: usize,
+    last: usize,
+    out: &mut [u8],
+    answer: &mut [u64; 5],
+)
+    ensures answer { λ _. ⌜ now (answer .exit) ≡ writtenAnswer (coreNumbersOf badges ticks (now (words .entry)) first last (now (out .entry)) .answer) ⌝ }
+    ensures leaves { λ _. ⌜ now (out .exit) ≡ coreNumbersOf badges ticks (now (words .entry)) first last (now (out .entry)) .buffer ⌝ }
+{
+    let written = groups::core_numbers(words, badges, ticks, first, last, out);
+    *answer = group_answer(written);
+}
+
+// groups::report.
+#[no_mangle]
+pub extern "C" fn ward_report(
+    words: &[u64],
+    badges: usize,
+    ticks: usize,
+    out: &mut [u8],
+    answer: &mut [u64; 5],
+)
+    ensures answer { λ _. ⌜ now (answer .exit) ≡ writtenAnswer (reportOf badges ticks (now (words .entry)) (now (out .entry)) .answer) ⌝ }
+    ensures leaves { λ _. ⌜ now (out .exit) ≡ reportOf badges ticks (now (words .entry)) (now (out .entry)) .buffer ⌝ }
+    ensures groups { λ _. ⌜ Reported badges ticks (now (words .entry)) (reportOf badges ticks (now (words .entry)) (now (out .entry)) .answer) (now (out .exit)) ⌝ }
+{
+    let written = groups::report(words, badges, ticks, out);
+    *answer = group_answer(written);
+}
+
+// groups::plan: the query is a set of badges, bit u for badge u.
+#[no_mangle]
+pub extern "C" fn ward_plan(
+    words: &[u64],
+    badges: usize,
+    ticks: usize,
+    query: u64,
+    parts: usize,
+    out: &mut [u8],
+    answer: &mut [u64; 5],
+)
+    ensures plan { λ _. ⌜ PlanAnswered badges ticks (now (words .entry)) query parts (now (out .entry)) (now (answer .exit)) (now (out .exit)) ⌝ }
+{
+    let set = BadgeSet::from_word(query);
+    let written = groups::plan(words, badges, ticks, set, parts, out);
+    *answer = group_answer(written);
+}

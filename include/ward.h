@@ -1,0 +1,96 @@
+/* The ward contact engine for C, and for any language that can call C. Link with libhost.a, which `rt staticlib host` writes
+ * (x86-64 Linux).
+ *
+ * A caller lends memory and calls. A call takes every input, does its own checking and finishes; it keeps nothing between calls,
+ * allocates nothing, and may run in any number of threads at once, each with memory of its own. What each call answers and leaves in
+ * the memory is proved, for every input, from the definitions that its contract cites (crates/host/src/lib.rt).
+ *
+ * The caller owes:
+ *   - every pointer is aligned for its type and not null, even where its length is 0;
+ *   - it points to so many elements as its length says, which the call may read, and write where the pointer is not const;
+ *   - memory that is written overlaps no other memory of the same call;
+ *   - `answer` points to five numbers.
+ *
+ * A call uses the caller's stack, as it was measured and not proved: ward_read under 1 KB, ward_core_numbers 3, ward_write 48, ward_tidy 51,
+ * ward_plan 63, ward_report 111.
+ *
+ * Every call writes all five numbers of `answer`. On a refusal the first is its number and the second its byte offset, and the others are
+ * 0; a refused call changes nothing else, except that ward_tidy refused by WARD_BUFFER_TOO_SHORT or WARD_TIDY_TOO_MANY leaves the day in
+ * its work words. On success the first two are 0; badges and ticks are what ward_read found, else 0; count is the number of contact
+ * records for ward_read, and the number of bytes written for the others. Memory after the answer is unchanged. */
+#ifndef WARD_H
+#define WARD_H
+
+#include <stddef.h>
+#include <stdint.h>
+
+#ifdef __cplusplus
+extern "C" {
+#endif
+
+/* Sizes that always suffice: words of a day, bytes of a log, of a report and of a plan, core numbers of a span. */
+#define WARD_WORDS 6144
+#define WARD_LOG_BYTES 48010
+#define WARD_REPORT_BYTES 60538
+#define WARD_PLAN_BYTES 1267
+#define WARD_CORE_NUMBERS 64
+
+/* The five numbers of an answer. */
+enum {
+    WARD_NUMBER = 0,
+    WARD_OFFSET = 1,
+    WARD_BADGES = 2,
+    WARD_TICKS = 3,
+    WARD_COUNT = 4
+};
+
+/* The refusals, by number. The offset is the start of the refused record for 1 to 6, of the first extra byte for 7, and 0 otherwise. */
+enum {
+    WARD_SUCCESS = 0,
+    WARD_CUT_SHORT = 1,              /* the bytes end inside a record, or where one must start */
+    WARD_WRONG_MARK = 2,             /* not BH for the first record, or not CT or ED later */
+    WARD_HEADER_OUT_OF_LIMITS = 3,   /* badges not 1 to 64, or ticks not 1 to 96, in a log */
+    WARD_INVALID_CONTACT = 4,        /* equal badges, a badge or tick that the day does not have, first after last */
+    WARD_TOO_MANY_CONTACTS = 5,      /* contact record number 8,001 */
+    WARD_WRONG_COUNT = 6,            /* the end's count differs */
+    WARD_TRAILING_BYTES = 7,         /* bytes follow the end */
+    WARD_TOO_FEW_WORDS = 8,          /* fewer than badges times ticks words lent */
+    WARD_BUFFER_TOO_SHORT = 9,       /* the result buffer is shorter than the exact answer */
+    WARD_SIZE_OUT_OF_LIMITS = 10,    /* badges or ticks, handed over, out of limits */
+    WARD_NOT_A_DAY = 11,             /* the words are no day: a badge in contact with itself or with none, or one-sided */
+    WARD_INVALID_SPAN = 12,          /* first after last, or last not a tick of the day */
+    WARD_FOREIGN_QUERY = 13,         /* the query has a badge that the day does not have */
+    WARD_INVALID_PARTS = 14,         /* no parts, or more than there are ticks */
+    WARD_WRITE_TOO_MANY = 15,        /* the tidy log would need more than 8,000 contact records */
+    WARD_TIDY_TOO_MANY = 16          /* the same, of ward_tidy; it cannot occur */
+};
+
+/* Reads a log into day words: word t * badges + u has bit v set exactly when u and v are in contact in tick t. On success every one of the
+ * first badges * ticks words is set. Refused by 1 to 7, in the log's own order, then 8. */
+void ward_read(const uint8_t *log, size_t log_len, uint64_t *words, size_t words_len, uint64_t answer[5]);
+
+/* Tidies a log: two logs that mean the same give the same bytes. Leaves the day in the work words. Refused by 1 to 7, 8, 16, 9. */
+void ward_tidy(const uint8_t *log, size_t log_len, uint64_t *work, size_t work_len, uint8_t *out, size_t out_len, uint64_t answer[5]);
+
+/* Writes day words as their tidy log. Refused by 10, 8, 11, 15, 9. */
+void ward_write(const uint64_t *words, size_t words_len, size_t badges, size_t ticks, uint8_t *out, size_t out_len, uint64_t answer[5]);
+
+/* The core number of each badge on the span from tick first to tick last, both counted, one byte a badge: the largest k such that the badge
+ * is in a set whose members each stay in contact, throughout the span, with k or more others of it. Refused by 10, 8, 11, 12, 9. */
+void ward_core_numbers(const uint64_t *words, size_t words_len, size_t badges, size_t ticks, size_t first, size_t last, uint8_t *out, size_t out_len,
+                       uint64_t answer[5]);
+
+/* The report of the day's groups, the maximal span-cores, by first tick and then last tick: RH, badges, ticks; for each group GR, order, first tick,
+ * last tick, members as a set of 8 bytes, the lowest first; ED and their number in 4 bytes. Refused by 10, 8, 11, 9. */
+void ward_report(const uint64_t *words, size_t words_len, size_t badges, size_t ticks, uint8_t *out, size_t out_len, uint64_t answer[5]);
+
+/* The plan of the shift around a query, a set with bit u for badge u: cuts the day into so many parts with the greatest sum of scores. PH, badges,
+ * ticks, parts, query in 8 bytes; for each part PT, score, first tick, last tick, members; ED and their number. Refused by 10, 8, 11, 13, 14, 9. */
+void ward_plan(const uint64_t *words, size_t words_len, size_t badges, size_t ticks, uint64_t query, size_t parts, uint8_t *out, size_t out_len,
+               uint64_t answer[5]);
+
+#ifdef __cplusplus
+}
+#endif
+
+#endif
