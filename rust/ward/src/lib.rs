@@ -1,0 +1,150 @@
+//! Safe calls of the ward contact engine. Each function lends its slices to one call of the static library and turns its answer of
+//! five numbers into a `Result`. What each call answers and leaves in the slices is proved; `include/ward.h` says it in words.
+//!
+//! ```
+//! let log = b"BH\x03\x02CT\x01\x00\x00\x01ED\x01\x00\x00\x00";
+//! let mut words = [0u64; ward::WORDS];
+//! let day = ward::read(log, &mut words)?;
+//! assert_eq!((day.badges, day.ticks, day.contacts), (3, 2, 1));
+//!
+//! let mut report = [0u8; ward::REPORT_BYTES];
+//! let size = ward::report(&words, day.badges, day.ticks, &mut report)?;
+//! assert_eq!(&report[..4], b"RH\x03\x02");
+//! assert_eq!(&report[4..17], b"GR\x01\x00\x01\x03\x00\x00\x00\x00\x00\x00\x00");
+//! assert_eq!(size, 23);
+//! # Ok::<(), ward::Refused>(())
+//! ```
+
+mod refusal;
+
+pub use refusal::{Refusal, Refused};
+
+/// Words that hold any day: 64 badges, 96 ticks.
+pub const WORDS: usize = 6144;
+/// Bytes that hold any log, tidy or not.
+pub const LOG_BYTES: usize = 48010;
+/// Bytes that hold any report.
+pub const REPORT_BYTES: usize = 60538;
+/// Bytes that hold any plan.
+pub const PLAN_BYTES: usize = 1267;
+/// Bytes that hold the core numbers of any span.
+pub const CORE_NUMBERS: usize = 64;
+
+/// What `read` found: n, T, and the number of contact records as given.
+#[derive(Clone, Copy, Debug, PartialEq, Eq)]
+pub struct Day {
+    pub badges: usize,
+    pub ticks: usize,
+    pub contacts: usize,
+}
+
+type Answer = [u64; 5];
+
+extern "C" {
+    fn ward_read(log: *const u8, log_len: usize, words: *mut u64, words_len: usize, answer: *mut Answer);
+    fn ward_tidy(log: *const u8, log_len: usize, work: *mut u64, work_len: usize, out: *mut u8, out_len: usize, answer: *mut Answer);
+    fn ward_write(words: *const u64, words_len: usize, badges: usize, ticks: usize, out: *mut u8, out_len: usize, answer: *mut Answer);
+    fn ward_core_numbers(
+        words: *const u64,
+        words_len: usize,
+        badges: usize,
+        ticks: usize,
+        first: usize,
+        last: usize,
+        out: *mut u8,
+        out_len: usize,
+        answer: *mut Answer,
+    );
+    fn ward_report(words: *const u64, words_len: usize, badges: usize, ticks: usize, out: *mut u8, out_len: usize, answer: *mut Answer);
+    fn ward_plan(
+        words: *const u64,
+        words_len: usize,
+        badges: usize,
+        ticks: usize,
+        query: u64,
+        parts: usize,
+        out: *mut u8,
+        out_len: usize,
+        answer: *mut Answer,
+    );
+}
+
+// A slice's pointer is aligned and not null, even where it is empty, and slices borrowed mutably overlap no other: what the calls ask for.
+
+/// Reads a log into day words: word t×n+u has bit v set exactly when u and v are in contact in tick t. A refused call changes no word.
+pub fn read(log: &[u8], words: &mut [u64]) -> Result<Day, Refused> {
+    let mut answer = [0; 5];
+    unsafe { ward_read(log.as_ptr(), log.len(), words.as_mut_ptr(), words.len(), &mut answer) };
+    refused(answer)?;
+    Ok(Day { badges: answer[2] as usize, ticks: answer[3] as usize, contacts: answer[4] as usize })
+}
+
+/// Tidies a log into a buffer, and gives the number of bytes. Two logs that mean the same give the same bytes. The work words hold the day
+/// once the log and their number have passed.
+///
+/// ```
+/// let (mut work, mut out) = ([0u64; ward::WORDS], [0u8; ward::LOG_BYTES]);
+/// let size = ward::tidy(b"BH\x02\x01CT\x01\x00\x00\x00ED\x01\x00\x00\x00", &mut work, &mut out)?;
+/// assert_eq!(&out[..size], b"BH\x02\x01CT\x00\x01\x00\x00ED\x01\x00\x00\x00");
+/// # Ok::<(), ward::Refused>(())
+/// ```
+pub fn tidy(log: &[u8], work: &mut [u64], out: &mut [u8]) -> Result<usize, Refused> {
+    let mut answer = [0; 5];
+    unsafe { ward_tidy(log.as_ptr(), log.len(), work.as_mut_ptr(), work.len(), out.as_mut_ptr(), out.len(), &mut answer) };
+    written(answer)
+}
+
+/// Writes day words as their tidy log, and gives the number of bytes.
+pub fn write(words: &[u64], badges: usize, ticks: usize, out: &mut [u8]) -> Result<usize, Refused> {
+    let mut answer = [0; 5];
+    unsafe { ward_write(words.as_ptr(), words.len(), badges, ticks, out.as_mut_ptr(), out.len(), &mut answer) };
+    written(answer)
+}
+
+/// Puts the core number of each badge on a span into a buffer, one byte a badge, and gives the number of badges.
+///
+/// ```
+/// let words = [0b10, 0b01]; // two badges in contact, in one tick
+/// let mut numbers = [0u8; ward::CORE_NUMBERS];
+/// assert_eq!(ward::core_numbers(&words, 2, 1, 0, 0, &mut numbers), Ok(2));
+/// assert_eq!(numbers[..2], [1, 1]);
+/// ```
+pub fn core_numbers(words: &[u64], badges: usize, ticks: usize, first: usize, last: usize, out: &mut [u8]) -> Result<usize, Refused> {
+    let mut answer = [0; 5];
+    unsafe { ward_core_numbers(words.as_ptr(), words.len(), badges, ticks, first, last, out.as_mut_ptr(), out.len(), &mut answer) };
+    written(answer)
+}
+
+/// Puts the report of a day's groups into a buffer, and gives the number of bytes.
+pub fn report(words: &[u64], badges: usize, ticks: usize, out: &mut [u8]) -> Result<usize, Refused> {
+    let mut answer = [0; 5];
+    unsafe { ward_report(words.as_ptr(), words.len(), badges, ticks, out.as_mut_ptr(), out.len(), &mut answer) };
+    written(answer)
+}
+
+/// Puts the plan of a shift around a query, a set with bit u for badge u, into a buffer, and gives the number of bytes.
+///
+/// ```
+/// let words = [0b10, 0b01];
+/// let mut plan = [0u8; ward::PLAN_BYTES];
+/// let refused = ward::plan(&words, 2, 1, 0b100, 1, &mut plan).unwrap_err();
+/// assert_eq!(refused.refusal, ward::Refusal::ForeignQuery);
+/// assert_eq!(refused.to_string(), "refused 13 at 0: the query has a badge that the day does not have");
+/// ```
+pub fn plan(words: &[u64], badges: usize, ticks: usize, query: u64, parts: usize, out: &mut [u8]) -> Result<usize, Refused> {
+    let mut answer = [0; 5];
+    unsafe { ward_plan(words.as_ptr(), words.len(), badges, ticks, query, parts, out.as_mut_ptr(), out.len(), &mut answer) };
+    written(answer)
+}
+
+fn refused(answer: Answer) -> Result<(), Refused> {
+    match Refusal::from_number(answer[0]) {
+        None => Ok(()),
+        Some(refusal) => Err(Refused { refusal, offset: answer[1] as usize }),
+    }
+}
+
+fn written(answer: Answer) -> Result<usize, Refused> {
+    refused(answer)?;
+    Ok(answer[4] as usize)
+}

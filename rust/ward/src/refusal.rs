@@ -1,0 +1,76 @@
+//! Why a call refuses.
+
+use std::error::Error;
+use std::fmt;
+
+/// A refusal, in the order of its numbers, 1 to 16.
+#[derive(Clone, Copy, Debug, PartialEq, Eq)]
+pub enum Refusal {
+    CutShort = 1,
+    WrongMark,
+    HeaderOutOfLimits,
+    InvalidContact,
+    TooManyContacts,
+    WrongCount,
+    TrailingBytes,
+    TooFewWords,
+    BufferTooShort,
+    SizeOutOfLimits,
+    NotADay,
+    InvalidSpan,
+    ForeignQuery,
+    InvalidParts,
+    WriteTooMany,
+    TidyTooMany,
+}
+
+use Refusal::*;
+
+const ALL: [(Refusal, &str); 16] = [
+    (CutShort, "the bytes end inside a record, or where one must start"),
+    (WrongMark, "the mark is not that of a record that may stand there"),
+    (HeaderOutOfLimits, "badges not 1 to 64, or ticks not 1 to 96"),
+    (InvalidContact, "equal badges, a badge or tick that the day does not have, or first after last"),
+    (TooManyContacts, "contact record number 8,001"),
+    (WrongCount, "the end's count differs"),
+    (TrailingBytes, "bytes follow the end"),
+    (TooFewWords, "fewer words lent than badges times ticks"),
+    (BufferTooShort, "the buffer is shorter than the answer"),
+    (SizeOutOfLimits, "badges not 1 to 64, or ticks not 1 to 96, handed over"),
+    (NotADay, "the words are not a day"),
+    (InvalidSpan, "first after last, or last not a tick of the day"),
+    (ForeignQuery, "the query has a badge that the day does not have"),
+    (InvalidParts, "no parts, or more than there are ticks"),
+    (WriteTooMany, "the tidy log would need more than 8,000 contact records"),
+    (TidyTooMany, "the tidy log would need more than 8,000 contact records"),
+];
+
+impl Refusal {
+    /// The refusal of a number, none for 0, which is success.
+    pub fn from_number(number: u64) -> Option<Refusal> {
+        let place = number.checked_sub(1)?;
+        Some(ALL[place as usize].0)
+    }
+
+    /// Its number in the paper.
+    pub fn number(self) -> u8 {
+        self as u8
+    }
+}
+
+/// What a refused call answers: the refusal, and a byte offset. The offset is the start of the refused record for 1 to 6, of the first extra
+/// byte for 7, and 0 otherwise.
+#[derive(Clone, Copy, Debug, PartialEq, Eq)]
+pub struct Refused {
+    pub refusal: Refusal,
+    pub offset: usize,
+}
+
+impl fmt::Display for Refused {
+    fn fmt(&self, f: &mut fmt::Formatter<'_>) -> fmt::Result {
+        let number = self.refusal.number();
+        write!(f, "refused {} at {}: {}", number, self.offset, ALL[number as usize - 1].1)
+    }
+}
+
+impl Error for Refused {}

@@ -1,0 +1,132 @@
+/* Random calls through the C interface, with every lent buffer between two pages that cannot be read or written, flush against one of them, and
+ * with what a call may only read on pages that cannot be written: a call that reaches outside what was lent, or writes where it must not, ends the
+ * program. Its argument is the number of calls. Prints how many of each were refused and how many succeeded. */
+#define _DEFAULT_SOURCE
+#include <stdio.h>
+#include <stdlib.h>
+#include <string.h>
+#include <sys/mman.h>
+
+#include "ward.h"
+
+enum { PAGE = 4096, ROOM = 16 * PAGE, CALLS = 6 };
+
+static uint64_t state = 88172645463325252u;
+
+static uint64_t next(void) {
+    state ^= state << 13;
+    state ^= state >> 7;
+    state ^= state << 17;
+    return state * 0x2545f4914f6cdd1du;
+}
+
+static size_t below(size_t bound) { return (next() >> 33) % bound; }
+
+/* Memory between two guard pages. */
+static uint8_t *region(void) {
+    uint8_t *all = mmap(NULL, ROOM + 2 * PAGE, PROT_NONE, MAP_PRIVATE | MAP_ANONYMOUS, -1, 0);
+    if (all == MAP_FAILED || mprotect(all + PAGE, ROOM, PROT_READ | PROT_WRITE) != 0) {
+        perror("mmap");
+        exit(2);
+    }
+    return all + PAGE;
+}
+
+static void writable(uint8_t *at, int yes) {
+    if (mprotect(at, ROOM, yes ? PROT_READ | PROT_WRITE : PROT_READ) != 0) {
+        perror("mprotect");
+        exit(2);
+    }
+}
+
+/* So many bytes at the front or at the back of a region. */
+static void *flush(uint8_t *at, size_t size) { return below(2) ? at : at + ROOM - size; }
+
+/* Words of a random day, or of none. */
+static void fill_words(uint64_t *words, size_t len, size_t n, size_t ticks) {
+    for (size_t i = 0; i < len; i++)
+        words[i] = 0;
+    if (n == 0 || n > 64)
+        return;
+    for (size_t t = 0; t < ticks && (t + 1) * n <= len; t++)
+        for (size_t u = 0; u < n; u++)
+            for (size_t v = u + 1; v < n; v++)
+                if (below(3) != 0) {
+                    words[t * n + u] |= (uint64_t)1 << v;
+                    words[t * n + v] |= (uint64_t)1 << u;
+                }
+    if (len > 0 && below(4) == 0)
+        words[below(len)] ^= (uint64_t)1 << below(64);
+}
+
+/* A random log, or bytes that are none; gives how many. */
+static size_t fill_log(uint8_t *log, size_t n, size_t ticks) {
+    size_t count = n > 1 ? below(30) : 0, size = 0;
+    const uint8_t header[4] = {'B', 'H', (uint8_t)n, (uint8_t)ticks};
+    memcpy(log, header, 4);
+    size = 4;
+    for (size_t i = 0; i < count; i++, size += 6) {
+        size_t wrong = below(200) == 0, a = below(n + wrong), b = n > 1 ? (a + 1 + below(n - 1)) % n : 0;
+        size_t first = below(ticks), last = first + below(ticks - first + wrong);
+        const uint8_t contact[6] = {'C', 'T', (uint8_t)a, (uint8_t)b, (uint8_t)first, (uint8_t)last};
+        memcpy(log + size, contact, 6);
+    }
+    const uint8_t end[6] = {'E', 'D', (uint8_t)count, 0, 0, 0};
+    memcpy(log + size, end, 6);
+    size += 6;
+    if (below(4) == 0)
+        log[below(size)] = (uint8_t)next();
+    return below(8) == 0 ? below(size + 1) : size;
+}
+
+static size_t odd_size(size_t usual, size_t most) {
+    static const size_t odd[] = {0, 65, 97, 1000, SIZE_MAX, (size_t)1 << 58};
+    return below(20) == 0 ? odd[below(6)] : 1 + below(usual < most ? usual : most);
+}
+
+int main(int argc, char **argv) {
+    size_t calls = argc > 1 ? strtoul(argv[1], NULL, 10) : 1000;
+    uint8_t *in = region(), *words_at = region(), *out_at = region(), *answer_at = region();
+    static uint8_t log[4096];
+    static uint64_t day[ROOM / 8];
+    size_t succeeded[CALLS] = {0}, refused[CALLS] = {0};
+    for (size_t i = 0; i < calls; i++) {
+        size_t call = below(CALLS), large = below(2000) == 0;
+        size_t n = odd_size(large ? 64 : 8, 64), ticks = odd_size(large ? 96 : 8, 96);
+        size_t words_len = large ? ROOM / 8 : below(80), out_len = below(4) == 0 ? below(40) : large ? ROOM : below(600);
+        uint64_t *answer = flush(answer_at, 40), *words = flush(words_at, words_len * 8);
+        uint8_t *out = flush(out_at, out_len);
+        if (call < 2) {
+            size_t size = fill_log(log, 1 + n % 66, 1 + ticks % 98);
+            uint8_t *bytes = flush(in, size);
+            memcpy(bytes, log, size);
+            writable(in, 0);
+            if (call == 0)
+                ward_read(bytes, size, words, words_len, answer);
+            else
+                ward_tidy(bytes, size, words, words_len, out, out_len, answer);
+            writable(in, 1);
+        } else {
+            fill_words(day, words_len, n, ticks);
+            memcpy(words, day, words_len * 8);
+            writable(words_at, 0);
+            if (call == 2)
+                ward_write(words, words_len, n, ticks, out, out_len, answer);
+            else if (call == 3)
+                ward_core_numbers(words, words_len, n, ticks, below(ticks % 99 + 1), below(ticks % 99 + 1), out, out_len, answer);
+            else if (call == 4)
+                ward_report(words, words_len, n, ticks, out, out_len, answer);
+            else
+                ward_plan(words, words_len, n, ticks, next() & next() & next() & (((uint64_t)2 << n % 64) - 1), below(9), out, out_len, answer);
+            writable(words_at, 1);
+        }
+        if (answer[WARD_NUMBER] == WARD_SUCCESS)
+            succeeded[call]++;
+        else
+            refused[call]++;
+    }
+    static const char *names[CALLS] = {"ward_read", "ward_tidy", "ward_write", "ward_core_numbers", "ward_report", "ward_plan"};
+    for (size_t call = 0; call < CALLS; call++)
+        printf("%s: %zu succeeded, %zu refused\n", names[call], succeeded[call], refused[call]);
+    return 0;
+}
