@@ -251,8 +251,8 @@ impl Scores {
         best[0] = Some(0);
         for _ in 0..h {
             let mut next = vec![None; self.ticks + 1];
-            for end in 1..=self.ticks {
-                next[end] = (0..end).filter_map(|start| Some(best[start]? + self.of_run(start, end - 1).0)).max();
+            for (end, sum) in next.iter_mut().enumerate().skip(1) {
+                *sum = (0..end).filter_map(|start| Some(best[start]? + self.of_run(start, end - 1).0)).max();
             }
             best = next;
         }
