@@ -57,7 +57,7 @@ enum {
     WARD_TOO_FEW_WORDS = 8,          /* fewer than badges times ticks words lent */
     WARD_BUFFER_TOO_SHORT = 9,       /* the result buffer is shorter than the exact answer */
     WARD_SIZE_OUT_OF_LIMITS = 10,    /* badges or ticks, handed over, out of limits */
-    WARD_NOT_A_DAY = 11,             /* the words are no day: a badge in contact with itself or with none, or one-sided */
+    WARD_NOT_A_DAY = 11,             /* the words are no day: a badge in contact with itself, with one that is not there, or one-sided */
     WARD_INVALID_SPAN = 12,          /* first after last, or last not a tick of the day */
     WARD_FOREIGN_QUERY = 13,         /* the query has a badge that the day does not have */
     WARD_INVALID_PARTS = 14,         /* no parts, or more than there are ticks */

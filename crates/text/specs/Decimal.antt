@@ -8,7 +8,7 @@ use lib.Dec.{ltb}
 abbrev pub digit : ℕ → ℕ
 digit d = code "0" + d
 
--- the digits of n, at most so many; a number has fewer digits than n + 1
+-- the digits of n, at most so many; n has no more than n + 1
 unfoldable pub decimalIn : ℕ → ℕ → List ℕ
 decimalIn zero n = []
 decimalIn (suc most) n = elim (ltb n 10) [ true ↦ digit n ∷ [] | false ↦ decimalIn most (n / 10) ++ digit (n % 10) ∷ [] ]

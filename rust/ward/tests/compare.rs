@@ -2,25 +2,11 @@
 //! compared whole, before and after, with guards around it.
 
 mod model;
+mod random;
 
 use model::{Day, Refusal};
+use random::Random;
 use std::cell::Cell;
-
-/// Random numbers from a fixed seed.
-struct Random(u64);
-
-impl Random {
-    fn next(&mut self) -> u64 {
-        self.0 ^= self.0 << 13;
-        self.0 ^= self.0 >> 7;
-        self.0 ^= self.0 << 17;
-        self.0.wrapping_mul(0x2545_f491_4f6c_dd1d)
-    }
-
-    fn below(&mut self, bound: usize) -> usize {
-        ((self.next() >> 33) % bound as u64) as usize
-    }
-}
 
 const GUARD: usize = 16;
 

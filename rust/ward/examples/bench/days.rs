@@ -1,19 +1,6 @@
 //! The days that the calls are measured on: 64 badges, 96 ticks, from a fixed generator.
 
-struct Random(u64);
-
-impl Random {
-    fn next(&mut self) -> u64 {
-        self.0 ^= self.0 << 13;
-        self.0 ^= self.0 >> 7;
-        self.0 ^= self.0 << 17;
-        self.0.wrapping_mul(0x2545_f491_4f6c_dd1d)
-    }
-
-    fn below(&mut self, bound: usize) -> usize {
-        ((self.next() >> 33) % bound as u64) as usize
-    }
-}
+use crate::random::Random;
 
 fn meet(words: &mut [u64], t: usize, u: usize, v: usize) {
     words[t * 64 + u] |= 1 << v;

@@ -7,6 +7,8 @@
 
 mod baselines;
 mod days;
+#[path = "../../tests/random/mod.rs"]
+mod random;
 
 use std::time::Instant;
 
