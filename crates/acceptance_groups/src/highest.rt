@@ -19,13 +19,13 @@ fn contains(set: u64, query: u64) -> bool {
     set != 0
 }
 
-// The core of the largest order above that of a given core that contains the query; the given one where there is none. Each core lies in that
-// of the order before, and none has an order above 64.
-pub(crate) fn highest_core(table: &[u8], base: u64, query: u64, given: Core) -> Core
+// The core of the largest order above that of a given core and below an order to stop at that contains the query; the given one where there is
+// none. Each core lies in that of the order before.
+pub(crate) fn highest_core(table: &[u8], base: u64, query: u64, given: Core, stop: usize) -> Core
     requires { ⌜ given .order < 256 ⌝ }
 {
     let mut core = given;
-    for order in given.order + 1..65 {
+    for order in given.order + 1..stop {
         let members = peeling::core(table, base, order);
         if !contains(members, query) {
             return core;

@@ -42,6 +42,27 @@ pub(crate) fn core(table: &[u8], base: u64, k: usize) -> u64 {
     left
 }
 
+// The smaller of a least degree and that of u, if it is in the set.
+fn with_degree(table: &[u8], set: u64, u: usize, least: usize) -> usize
+    requires { ⌜ u < 64 ⌝ }
+{
+    let d = degree(table, set, u);
+    if bit(set, u) == 1 && d < least {
+        d
+    } else {
+        least
+    }
+}
+
+// The least degree of a set; 64 where it is empty.
+pub(crate) fn least_degree(table: &[u8], set: u64) -> usize {
+    let mut least = 64;
+    for u in 0..64usize {
+        least = with_degree(table, set, u, least);
+    }
+    least
+}
+
 // Gives badge u the number k, if it is a member.
 fn number_member(numbers: &mut [u8], set: u64, u: usize, k: usize) {
     if bit(set, u) == 1 {

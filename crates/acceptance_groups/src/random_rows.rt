@@ -83,7 +83,8 @@ pub(crate) fn highest_core() -> Tally {
         let query = random_query(base, &mut state);
         let bound = 1 + draw(&mut state, 80);
         let above = draw(&mut state, bound);
-        t = highest_case(t, rows, base, query, above);
+        let most = draw(&mut state, 80);
+        t = highest_case(t, rows, base, query, above, most);
     }
     t
 }

@@ -28,7 +28,7 @@ fn fill_place(
             order: 0,
             members: all,
         };
-        let core = highest_core(&table, all, query, none);
+        let core = highest_core(&table, all, query, none, 65);
         set_byte(orders, at, core.order);
         set_word(members, at, core.members);
     }

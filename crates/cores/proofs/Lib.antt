@@ -4,9 +4,8 @@
 pub mod Degrees
 pub mod Cores
 pub mod Orders
--- rows in arrays: peeled, their members, their least degree, and peeled again at rising orders
+-- rows in arrays: the least degree of a set, what passes leave, the rows of a core, and peeling again at rising orders
+pub mod LeastDegrees
 pub mod Peeled
 pub mod Induced
-pub mod Joined
-pub mod LeastDegrees
 pub mod Levels

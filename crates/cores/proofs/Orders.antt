@@ -2,7 +2,7 @@
 use mathlib.Core.Path.{_≡_, refl, sym, ap, _∙_}
 use mathlib.Core.Bool.{Bool, true, false}
 use mathlib.Core.Logic.{_⊎_, inl, inr, _↔_, by-cases}
-use Prim.Native.Nat.{ℕ, zero, suc, _≤_, _<_, zero-le, suc-le-suc}
+use Prim.Native.Nat.{ℕ, zero, suc, _≤_, _<_, min, zero-le, suc-le-suc}
 use native.Mathlib.Nat.{le-refl, eq-or-lt-of-le}
 use native.Mathlib.Decide.{decLt}
 use native.Mathlib.Omega.{arith}
@@ -184,21 +184,22 @@ score-same {rows′} {rows} base query f g = omega (
   largest-mono (size base) (size base) (contains rows base query) (contains rows′ base query) (λ j l h e. (h, rw (core-same base j f g) e)),
 )
 
--- the members of the highest core above an order, where there is one and where there is none
-module _ (rows : ℕ → ℕ) (base query above : ℕ) where
-  pub highest-yes : above < score rows base query → highestMembers rows base query above ≡ core rows base (score rows base query)
+-- the members of the highest core above one order and up to another, where there is one and where there is none
+module _ (rows : ℕ → ℕ) (base query above most : ℕ) where
+  pub highest-yes : above < min most (score rows base query) → highestMembers rows base query above most ≡ core rows base (min most (score rows base query))
   unfolding highestMembers
-  highest-yes h = rw (lt-ltb above (score rows base query) h, highestMembers)
+  highest-yes h = rw (lt-ltb above (min most (score rows base query)) h, highestMembers)
 
-  pub highest-no : score rows base query ≤ above → highestMembers rows base query above ≡ 0
+  pub highest-no : min most (score rows base query) ≤ above → highestMembers rows base query above most ≡ 0
   unfolding highestMembers
-  highest-no h = rw (le-ltb above (score rows base query) h, highestMembers)
+  highest-no h = rw (le-ltb above (min most (score rows base query)) h, highestMembers)
 
 -- graphs with the same pairs among the badges of the base have the same highest cores
-pub highest-same : {rows′ rows : ℕ → ℕ} (base query above : ℕ) → FewerPairs base rows′ rows → FewerPairs base rows rows′
-    → highestMembers rows′ base query above ≡ highestMembers rows base query above
-highest-same {rows′} {rows} base query above f g =
+pub highest-same : {rows′ rows : ℕ → ℕ} (base query above most : ℕ) → FewerPairs base rows′ rows → FewerPairs base rows rows′
+    → highestMembers rows′ base query above most ≡ highestMembers rows base query above most
+highest-same {rows′} {rows} base query above most f g =
     let e = score-same base query f g in
-    by-cases (decLt above (score rows base query))
-    (λ h. highest-yes rows′ base query above (omega arith) ∙ core-same base (score rows′ base query) f g ∙ ap (core rows base) e ∙ sym (highest-yes rows base query above h))
-    (λ h. highest-no rows′ base query above (omega arith) ∙ sym (highest-no rows base query above (omega arith)))
+    by-cases (decLt above (min most (score rows base query)))
+    (λ h. highest-yes rows′ base query above most (omega arith) ∙ core-same base (min most (score rows′ base query)) f g ∙ ap (λ (x : ℕ). core rows base (min most x)) e
+    ∙ sym (highest-yes rows base query above most h))
+    (λ h. highest-no rows′ base query above most (omega arith) ∙ sym (highest-no rows base query above most (omega arith)))

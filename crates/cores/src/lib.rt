@@ -1,11 +1,12 @@
 // The cores of one graph, given as one row a badge: row u has the neighbours of badge u.
 //
-// `peel` takes rows to those of a core; `core_numbers` and `highest_core` peel at rising orders, each from the rows that the last left.
+// `peel` takes rows to those of a core, with its members and their least degree; `core_numbers` and `highest_core` peel at rising orders, each from the rows that the last left.
 mod numbering;
 mod peeling;
 mod rising;
 
 pub use numbering::core_numbers;
+pub use peeling::Peeled;
 pub use peeling::peel;
 pub use rising::Core;
 pub use rising::highest_core;

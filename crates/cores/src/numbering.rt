@@ -4,8 +4,6 @@ ghost use Rattle.sets.specs.Members.{members};
 ghost use Rattle.cores.specs.Rows.{coreNumbers};
 ghost use Rattle.cores.specs.Passes.{raised};
 use crate::peeling::peel;
-use crate::rising::joined;
-use crate::rising::least_degree;
 use sets::BadgeSet;
 
 // Gives every member of a set the number k.
@@ -34,15 +32,16 @@ pub fn core_numbers(rows: [u64; 64], base: BadgeSet) -> [u8; 64]
     let mut order: usize = 1;
     loop {
         let peeled = peel(left, members, order);
-        let next = joined(&peeled);
+        let next = peeled.members;
         if next.is_empty() {
             return numbers;
         }
-        let least = least_degree(&peeled, next);
+        let least = peeled.least;
         let above = least + 1;
         let raised = raise(numbers, next, least as u8);
         numbers = raised;
-        left = peeled;
+        let cut = peeled.rows;
+        left = cut;
         members = next;
         order = above;
     }

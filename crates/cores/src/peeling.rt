@@ -1,49 +1,69 @@
 // Peeling: badges of low degree are dropped until none is left to drop.
 ghost use mathlib.Core.Path.{_≡_};
-ghost use Prim.Native.Nat.{_<_};
 ghost use Rattle.sets.specs.Members.{members};
-ghost use Rattle.cores.specs.Cores.{core};
-ghost use Rattle.cores.specs.Rows.{graph, induced};
-ghost use Rattle.cores.specs.Passes.{withoutLow, Passed};
+ghost use Rattle.cores.specs.Rows.{graph, induced, IsPeeled};
+ghost use Rattle.cores.specs.Passes.{LookedAt, Passed, IsCoreKept};
 use sets::BadgeSet;
 
-// The set without badge u, if u has fewer neighbours in it than the order asks.
-fn without_low(row: u64, order: usize, s: BadgeSet, u: usize) -> BadgeSet
-    ensures { λ r. ⌜ members r ≡ withoutLow row order (members s) u ⌝ }
+// What is left of a set while badges are dropped, and the least degree among those that were kept; 64 where none was.
+struct Kept {
+    members: BadgeSet,
+    least: usize,
+}
+
+// Looks at badge u: it is dropped if it has fewer neighbours in what is left than the order asks; else the least degree takes its degree in.
+fn look_at(kept: Kept, row: u64, order: usize, u: usize) -> Kept
+    ensures { λ r. ⌜ LookedAt row order u (members (kept .members)) (kept .least) (members (r .members)) (r .least) ⌝ }
 {
-    if BadgeSet::from_word(row).intersection(s).size() < order {
-        return s.without(u);
+    let s = kept.members;
+    let degree = BadgeSet::from_word(row).intersection(s).size();
+    if degree < order {
+        return Kept {
+            members: s.without(u),
+            least: kept.least,
+        };
     }
-    s
+    if degree < kept.least {
+        return Kept {
+            members: s,
+            least: degree,
+        };
+    }
+    kept
 }
 
 // One pass over the members of a set: each that has too few neighbours in what is left then is dropped.
-fn pass(rows: &[u64; 64], s: BadgeSet, order: usize) -> BadgeSet
-    ensures { λ r. ⌜ Passed (graph (now (rows .entry))) order (members s) (members r) ⌝ }
+fn pass(rows: &[u64; 64], s: BadgeSet, order: usize) -> Kept
+    ensures { λ r. ⌜ Passed (graph (now (rows .entry))) order (members s) (members (r .members)) (r .least) ⌝ }
 {
-    let mut left = s;
+    let mut kept = Kept {
+        members: s,
+        least: 64,
+    };
     let mut unseen = s;
     while !unseen.is_empty() {
         let u = unseen.smallest();
-        let kept = without_low(rows[u], order, left, u);
-        left = kept;
+        let next = look_at(kept, rows[u], order, u);
+        kept = next;
         let rest = unseen.without(u);
         unseen = rest;
     }
-    left
+    kept
 }
 
-// The members of the core of an order among the badges of a base set. Each removal lowers others, so passes follow until one drops nobody.
-fn core(rows: &[u64; 64], base: BadgeSet, order: usize) -> BadgeSet
-    ensures { λ r. ⌜ members r ≡ core (graph (now (rows .entry))) (members base) order ⌝ }
+// The members of the core of an order among the badges of a base set, and their least degree. Each removal lowers others, so passes follow
+// until one drops nobody; that one has seen the degrees in the core.
+fn core(rows: &[u64; 64], base: BadgeSet, order: usize) -> Kept
+    ensures { λ r. ⌜ IsCoreKept (graph (now (rows .entry))) (members base) order (members (r .members)) (r .least) ⌝ }
 {
     let mut left = base;
     loop {
         let next = pass(rows, left, order);
-        if left.is_subset(next) {
+        let members = next.members;
+        if left.is_subset(members) {
             return next;
         }
-        left = next;
+        left = members;
     }
 }
 
@@ -62,11 +82,23 @@ fn induce(rows: [u64; 64], s: BadgeSet) -> [u64; 64]
     out
 }
 
+// Rows that were peeled: those of a core, the core's members, and their least degree; 64 where there is no core.
+pub struct Peeled {
+    pub rows: [u64; 64],
+    pub members: BadgeSet,
+    pub least: usize,
+}
+
 // The rows of the core of an order among the badges of a base set: each member's row cut to the core, and an empty row for every other
-// badge.
-pub fn peel(rows: [u64; 64], base: BadgeSet, order: usize) -> [u64; 64]
-    ensures { λ r. ⌜ r ≡ induced rows (core (graph rows) (members base) order) ⌝ }
+// badge. With them come the core's members and their least degree.
+pub fn peel(rows: [u64; 64], base: BadgeSet, order: usize) -> Peeled
+    ensures { λ r. ⌜ IsPeeled rows (members base) order (r .rows) (members (r .members)) (r .least) ⌝ }
 {
-    let members = core(&rows, base, order);
-    induce(rows, members)
+    let kept = core(&rows, base, order);
+    let members = kept.members;
+    Peeled {
+        rows: induce(rows, members),
+        members,
+        least: kept.least,
+    }
 }

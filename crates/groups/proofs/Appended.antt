@@ -1,13 +1,15 @@
 -- Laws of records that are appended to a buffer: their bytes one after the other, and the loop over the last ticks of the spans with one first tick.
+use mathlib.Core.Bool.{Bool}
 use mathlib.Core.Path.{_≡_, refl, sym, ap, _∙_, subst}
 use mathlib.Core.List.{List, [], _∷_, _++_, append-assoc, append-nil}
-use Prim.Native.Nat.{ℕ, _+_, _-_, _*_, _≤_}
+use Prim.Native.Nat.{ℕ, suc, _+_, _-_, _*_, _≤_}
 use native.Mathlib.Numerals.{add-one}
 use native.Mathlib.Omega.{arith}
 use lib.Dec.{leb, ltb}
 use lib.ListN.{length, getD, take, length-append}
 use lib.Seq.{length-paste}
 use borrow.Author.Tests.{le-leb, leb-true}
+use Rattle.sets.specs.Bools.{_and_}
 use Rattle.sets.specs.Tables.{concatBelow, keepIf}
 use Rattle.sets.proofs.Concat.{concat-nil, keep-nil, keep-all, keep-le, concat-from}
 use Rattle.log.specs.Buffers.{place}
@@ -56,20 +58,23 @@ module _ {a b header : ℕ} where
   appends-more f m e g = rw add-one (appends-then e g)
 
 module _ (orders members : List ℕ) (first : ℕ) where
-  -- the record of the span that ends with a tick, and the list of it where that tick is not before the first and there are members
+  -- the record of the span that ends with a tick, whether it is kept, and the list of it where that tick is not before the first
   abbrev pub spanRecord : ℕ → SpanCore
   spanRecord last = record { order = getD orders last 0; first = first; last = last; members = getD members last 0 }
 
+  abbrev pub isKept : ℕ → Bool
+  isKept last = ltb 0 (getD members last 0) and ltb (getD orders (suc last) 0) (getD orders last 0)
+
   abbrev pub lineCell : ℕ → List SpanCore
-  lineCell last = keepIf (leb first last) (keepIf (ltb 0 (getD members last 0)) (spanRecord last ∷ []))
+  lineCell last = keepIf (leb first last) (keepIf (isKept last) (spanRecord last ∷ []))
 
   -- no span ends before its first tick
   pub line-none : concatBelow first lineCell ≡ []
   line-none = concat-nil first lineCell (λ last h. keep-nil (leb first last) _ (λ e. let l : first ≤ last = leb-true _ _ e in omega arith))
 
-  -- a turn of the loop over the last ticks: the record of the span that ends with the tick, if it has members
+  -- a turn of the loop over the last ticks: the record of the span that ends with the tick, if it is kept
   pub line-more : {a b header : ℕ} (last : ℕ) → first ≤ last → {i j k : ℕ} {x y z : List ℕ} → AppendsCores a b header (concatBelow last lineCell) i j x y
-      → AppendsCores a b header (keepIf (ltb 0 (getD members last 0)) (spanRecord last ∷ [])) j k y z → AppendsCores a b header (concatBelow (last + 1) lineCell) i k x z
+      → AppendsCores a b header (keepIf (isKept last) (spanRecord last ∷ [])) j k y z → AppendsCores a b header (concatBelow (last + 1) lineCell) i k x z
   line-more {a} {b} {header} last h {i} {j} {k} {x} {y} {z} e f =
       appends-more lineCell last e (subst (λ (cs : List SpanCore). AppendsCores a b header cs j k y z) (sym (keep-all (leb first last) _ (le-leb _ _ h))) f)
 
@@ -78,4 +83,4 @@ module _ (orders members : List ℕ) (first : ℕ) where
   cells-le m = concat-from lineCell first m (λ last h. keep-nil (leb first last) _ (λ e. let l : first ≤ last = leb-true _ _ e in omega arith)) (λ last h. cell-le last)
     where
       cell-le : (last : ℕ) → length (lineCell last) ≤ 1
-      cell-le last = omega (arith, keep-le (leb first last) (keepIf (ltb 0 (getD members last 0)) (spanRecord last ∷ [])), keep-le (ltb 0 (getD members last 0)) (spanRecord last ∷ []))
+      cell-le last = omega (arith, keep-le (leb first last) (keepIf (isKept last) (spanRecord last ∷ [])), keep-le (isKept last) (spanRecord last ∷ []))

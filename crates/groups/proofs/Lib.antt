@@ -1,13 +1,15 @@
 -- Laws of the definitions in specs/, from the bottom up. Other crates cite NumbersCall and PlanCall.
 
--- the rows of spans, and the loops that narrow them, fill a table with them and find cores in it
+-- the rows of spans, and the loop that narrows them
 pub mod TickRows
 pub mod Narrowing
+-- core numbers
+pub mod NumbersCall
+-- what is found from rows, and the loop over the spans with one first tick
+pub mod RowCores
 pub mod LineLoops
 -- records in bytes
 pub mod Appended
--- core numbers
-pub mod NumbersCall
 -- the report: line by line, in bytes, and as a whole
 pub mod LineLaws
 pub mod ReportBytes

@@ -12,7 +12,7 @@ use Rattle.sets.proofs.Tables.{front, front-done}
 use Rattle.records.proofs.WithinLimits.{limits-of}
 use Rattle.days.proofs.Days.{tick-fits}
 use Rattle.spans.specs.Spans.{SpanOfDay, spanRows}
-use Rattle.groups.specs.Steps.{tickOf, tickRows, narrowed, Narrows}
+use Rattle.groups.specs.Steps.{tickOf, tickRows, narrowed, Narrows, RowsTo}
 use Rattle.groups.proofs.TickRows.{intersection-none, tick-span, narrow-span}
 
 -- filled as far as there are words, the rows are those of the tick, and those that the tick narrows
@@ -47,17 +47,20 @@ pub record Going (n : ℕ) (ws : List ℕ) (first last t at : ℕ) (found : List
   pub place : at ≡ t * n
   pub rows : found ≡ spanRows n ws first t
 
--- at the first tick, after one tick more, and at the last tick
+-- at the tick reached before, after one tick more, and at the last tick
+pub going-start : {n : ℕ} {ws : List ℕ} {first last reached : ℕ} {rows : List ℕ} → RowsTo n ws first last rows reached → Going n ws first last reached (reached * n) rows
+going-start r = record { low = r .low; high = r .high; place = refl; rows = r .are }
+
 module _ {n T : ℕ} {ws : List ℕ} {first last : ℕ} (d : SpanOfDay n T ws first last) where
   few : n ≤ capacity
   few = limits-of (d .lent .limits) .few
 
-  pub going-start : {rows : List ℕ} → rows ≡ tickRows (take (first * n + n - first * n) (drop (first * n) ws)) → Going n ws first last first (first * n) rows
-  going-start e = record {
+  -- the rows of the first tick alone
+  pub first-rows : {rows : List ℕ} → rows ≡ tickRows (take (first * n + n - first * n) (drop (first * n) ws)) → RowsTo n ws first last rows first
+  first-rows e = record {
     low = le-refl first;
     high = d .rising;
-    place = refl;
-    rows = e ∙ ap tickRows (slice-tick n ws first refl) ∙ tick-span n T ws first (d .lent .day) (omega (arith, d .rising, d .inside));
+    are = e ∙ ap tickRows (slice-tick n ws first refl) ∙ tick-span n T ws first (d .lent .day) (omega (arith, d .rising, d .inside));
   }
 
   module _ {t at : ℕ} {rows : List ℕ} (g : Going n ws first last t at rows) (l : t < last) where

@@ -4,7 +4,6 @@ use mathlib.Core.List.{List, [], _∷_, _++_, append-assoc}
 use Prim.Native.Nat.{ℕ, suc, _+_, _-_, _*_, _≤_, _<_}
 use native.Mathlib.Omega.{arith}
 use lib.ListN.{length, take, replicate}
-use Rattle.sets.specs.Members.{capacity}
 use Rattle.sets.specs.Tables.{concatBelow}
 use Rattle.records.specs.declared.record.Record.the-variants.{End}
 use Rattle.records.specs.Limits.{maxTicks}
@@ -17,42 +16,37 @@ use Rattle.log.proofs.Delivering.{take-place}
 use Rattle.spans.specs.Reports.{groupsFrom, groupsOf}
 use Rattle.spans.specs.Encoding.{maxGroups, maxReportBytes, encodeCores, reportBytes}
 use Rattle.spans.proofs.MostGroups.{groups-before}
-use Rattle.groups.specs.Lines.{LineSizes, LineRows, LineCores, OrdersBefore}
+use Rattle.groups.specs.Lines.{ScoresBefore, LineFound}
 use Rattle.groups.specs.Appending.{AppendsCores, lineList, LineRoom, EncodesReport}
 use Rattle.groups.proofs.Appended.{appends-none, appends-more}
-use Rattle.groups.proofs.LineLaws.{line-groups, orders-none, orders-more, line-list}
+use Rattle.groups.proofs.LineLaws.{scores-none, scores-more, line-list}
 
 -- Before the turn of a first tick: the groups of the spans that start before it are appended, and the orders are those of the spans that start
 -- one tick before it.
-pub record ReportSoFar (n T : ℕ) (ws : List ℕ) (first count : ℕ) (buffer₀ buffer table orders members : List ℕ) : Type 0 where
+pub record ReportSoFar (n T : ℕ) (ws : List ℕ) (first count : ℕ) (buffer₀ buffer orders members : List ℕ) : Type 0 where
   pub lent : LentDay n T ws
   pub high : first ≤ T
   pub room : maxReportBytes ≤ length buffer
-  pub table-size : length table ≡ maxTicks * capacity
   pub members-size : length members ≡ maxTicks
-  pub before : OrdersBefore n T ws first orders
+  pub before : ScoresBefore n T ws 0 first orders
   pub appended : AppendsCores 71 82 4 (concatBelow first (groupsFrom n T ws)) 0 count buffer₀ buffer
 
 short : {n T : ℕ} {ws : List ℕ} → LentDay n T ws → T ≤ maxTicks
 short d = limits-of (d .limits) .short
 
 pub so-far-none : (n T : ℕ) (ws buffer : List ℕ) → LentDay n T ws → maxReportBytes ≤ length buffer
-    → ReportSoFar n T ws 0 0 buffer buffer (replicate 6144 0) (replicate 97 0) (replicate 96 0)
+    → ReportSoFar n T ws 0 0 buffer buffer (replicate 97 0) (replicate 96 0)
 unfolding concatBelow
 so-far-none n T ws buffer d r = record {
   lent = d;
   high = omega arith;
   room = r;
-  table-size = refl;
   members-size = refl;
-  before = orders-none n T ws (short d);
+  before = scores-none n T ws 0 (short d);
   appended = appends-none;
 }
 
-module _ {n T : ℕ} {ws : List ℕ} {first count : ℕ} {buffer₀ buffer table orders members : List ℕ} (s : ReportSoFar n T ws first count buffer₀ buffer table orders members) where
-  pub so-far-sizes : {table′ : List ℕ} → LineRows n T ws first table′ → LineSizes n T table′ orders members
-  so-far-sizes t = record { few = limits-of (s .lent .limits) .few; short = short (s .lent); table-size = t .size; orders-size = s .before .size; members-size = s .members-size }
-
+module _ {n T : ℕ} {ws : List ℕ} {first count : ℕ} {buffer₀ buffer orders members : List ℕ} (s : ReportSoFar n T ws first count buffer₀ buffer orders members) where
   -- so far there are so few that one more for each last tick has room
   so-far-few : count + (T - first) ≤ maxGroups
   so-far-few = omega (arith, s .appended .number, groups-before n T ws first (s .high) (short (s .lent)))
@@ -60,7 +54,7 @@ module _ {n T : ℕ} {ws : List ℕ} {first count : ℕ} {buffer₀ buffer table
   pub so-far-count : count ≤ maxGroups
   so-far-count = omega (arith, so-far-few)
 
-  module _ (l : first < T) {table′ orders′ members′ : List ℕ} (t : LineRows n T ws first table′) (c : LineCores n T first table′ orders orders′ members′) where
+  module _ (l : first < T) {orders′ members′ : List ℕ} (c : LineFound n T ws 0 first orders orders′ members′) where
     pub so-far-room : LineRoom T first count orders′ members′ buffer
     so-far-room =
         let h = short (s .lent) in
@@ -73,24 +67,22 @@ module _ {n T : ℕ} {ws : List ℕ} {first count : ℕ} {buffer₀ buffer table
         }
 
     pub so-far-next : {count′ : ℕ} {buffer′ : List ℕ} → AppendsCores 71 82 4 (lineList orders′ members′ first T) count count′ buffer buffer′
-        → ReportSoFar n T ws (first + 1) count′ buffer₀ buffer′ table′ orders′ members′
+        → ReportSoFar n T ws (first + 1) count′ buffer₀ buffer′ orders′ members′
     so-far-next {count′} {buffer′} a =
-        let g = line-groups (limits-of (s .lent .limits) .few) t (s .before) c in
-        let b : AppendsCores 71 82 4 (groupsFrom n T ws first) count count′ buffer buffer′ = rw (line-list g) at a in
+        let b : AppendsCores 71 82 4 (groupsFrom n T ws first) count count′ buffer buffer′ = rw (line-list (s .before) c) at a in
         let e : first + 1 ≡ suc first = omega arith in
         record {
           lent = s .lent;
           high = omega arith;
           room = omega (arith, s .room, a .size);
-          table-size = t .size;
           members-size = c .members-size;
-          before = rw e (orders-more g);
+          before = rw e (scores-more (s .before) c);
           appended = appends-more (groupsFrom n T ws) first (s .appended) b;
         }
 
 -- the header and the end make it a report
-pub so-far-end : {n T : ℕ} {ws : List ℕ} {first count : ℕ} {buffer₀ buffer table orders members : List ℕ} (given left : List ℕ)
-    → ReportSoFar n T ws first count buffer₀ buffer table orders members → T ≤ first → 4 ≤ length given → buffer₀ ≡ place 0 (82 ∷ 72 ∷ n ∷ T ∷ []) given
+pub so-far-end : {n T : ℕ} {ws : List ℕ} {first count : ℕ} {buffer₀ buffer orders members : List ℕ} (given left : List ℕ)
+    → ReportSoFar n T ws first count buffer₀ buffer orders members → T ≤ first → 4 ≤ length given → buffer₀ ≡ place 0 (82 ∷ 72 ∷ n ∷ T ∷ []) given
     → left ≡ place (4 + 13 * count) (encode (End count)) buffer → EncodesReport n T ws count left
 unfolding groupsOf reportBytes
 so-far-end {n} {T} {ws} {first} {count} {buffer₀} {buffer} given left s h l e f =

@@ -1,9 +1,10 @@
 -- What the functions that put records into memory promise.
 use mathlib.Core.List.{List, [], _∷_, _++_}
 use mathlib.Core.Path.{_≡_}
-use Prim.Native.Nat.{ℕ, _+_, _-_, _*_, _≤_, _<_}
+use Prim.Native.Nat.{ℕ, suc, _+_, _-_, _*_, _≤_, _<_}
 use lib.Dec.{leb, ltb}
 use lib.ListN.{length, getD, take}
+use Rattle.sets.specs.Bools.{_and_}
 use Rattle.sets.specs.Tables.{concatBelow, keepIf}
 use Rattle.records.specs.Limits.{maxTicks}
 use Rattle.spans.specs.SpanCores.{SpanCore}
@@ -16,15 +17,15 @@ pub record AppendsCores (a b header : ℕ) (cores : List SpanCore) (count count�
   pub size : length buffer′ ≡ length buffer
   pub bytes : take (header + 13 * count′) buffer′ ≡ take (header + 13 * count) buffer ++ encodeCores a b cores
 
--- the records of the spans that start with a tick, by last tick: those with members
+-- the records of the spans that start with a tick, by last tick: those with members whose order is above the next
 unfoldable pub lineList : List ℕ → List ℕ → ℕ → ℕ → List SpanCore
 lineList orders members first T =
-    concatBelow T (λ last. keepIf (leb first last) (keepIf (ltb 0 (getD members last 0)) (record { order = getD orders last 0; first = first; last = last; members = getD members last 0 } ∷ [])))
+    concatBelow T (λ last. keepIf (leb first last) (keepIf (ltb 0 (getD members last 0) and ltb (getD orders (suc last) 0) (getD orders last 0)) (record { order = getD orders last 0; first = first; last = last; members = getD members last 0 } ∷ [])))
 
 -- sizes that let a line of records be appended: at most one for each last tick from the first tick on
 pub record LineRoom (T first count : ℕ) (orders members buffer : List ℕ) : Type 0 where
   pub short : T ≤ maxTicks
-  pub orders-size : T ≤ length orders
+  pub orders-size : T < length orders
   pub members-size : T ≤ length members
   pub inside : first < T
   pub room : 4 + 13 * (count + (T - first)) ≤ length buffer

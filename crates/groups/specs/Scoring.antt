@@ -7,30 +7,22 @@ use Rattle.sets.specs.Sets.{full}
 use Rattle.sets.specs.Members.{capacity}
 use Rattle.records.specs.Limits.{maxTicks}
 use Rattle.days.specs.Days.{LentDay}
-use Rattle.cores.specs.Orders.{highestOrder}
-use Rattle.cores.specs.Rows.{graph}
 use Rattle.cuts.specs.Cuttings.{Cutting}
 use Rattle.cuts.specs.Sums.{tableScore}
 use Rattle.spans.specs.Plans.{scoreOn, partsFrom}
 use Rattle.spans.specs.Encoding.{planBytes}
-use Rattle.groups.specs.Lines.{rowsAt}
 
--- sizes of the lists that a line of spans is scored in
-pub record ScoreSizes (n T first : ℕ) (table bounds scores : List ℕ) : Type 0 where
-  pub few : n ≤ capacity
+-- sizes that let a line of scores be put into a table
+pub record LinePlaces (T first : ℕ) (orders scores : List ℕ) : Type 0 where
   pub short : T ≤ maxTicks
   pub inside : first < T
-  pub table-size : length table ≡ maxTicks * capacity
-  pub bounds-size : length bounds ≡ maxTicks
+  pub orders-size : T ≤ length orders
   pub scores-size : length scores ≡ maxTicks * maxTicks
 
--- Of the rows in a table, by last tick, the order of the highest core that contains the query above the bound that was given. It is the bound
--- that is left, and stands in the row of scores of the first tick. The rows of scores before it stay.
-pub record LineScores (n T first query : ℕ) (table bounds bounds′ scores scores′ : List ℕ) : Type 0 where
-  pub bounds-size : length bounds′ ≡ maxTicks
-  pub scores-size : length scores′ ≡ maxTicks * maxTicks
-  pub bound : (last : ℕ) → first ≤ last → last < T → getD bounds′ last 0 ≡ highestOrder (graph (rowsAt table last)) (full n) query (getD bounds last 0)
-  pub score : (last : ℕ) → first ≤ last → last < T → tableScore scores′ first last ≡ highestOrder (graph (rowsAt table last)) (full n) query (getD bounds last 0)
+-- the scores of the runs that start with a tick stand in its row of a table, and the rows before it stay
+pub record LinePut (T first : ℕ) (orders scores scores′ : List ℕ) : Type 0 where
+  pub size : length scores′ ≡ maxTicks * maxTicks
+  pub here : (last : ℕ) → first ≤ last → last < T → tableScore scores′ first last ≡ getD orders last 0
   pub before : (f l : ℕ) → f < first → l < maxTicks → tableScore scores′ f l ≡ tableScore scores f l
 
 -- a table with the scores of all runs that start before a tick

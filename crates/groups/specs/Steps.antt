@@ -23,3 +23,9 @@ narrowed rows tick = tabulate capacity (λ u. intersection (getD rows u 0) (getD
 pub record Narrows (rows tick longer : List ℕ) : Type 0 where
   pub span : (n : ℕ) (ws : List ℕ) (first last : ℕ) → n ≤ capacity → first ≤ last → rows ≡ spanRows n ws first last → tick ≡ tickOf n ws (suc last)
       → longer ≡ spanRows n ws first (suc last)
+
+-- rows of a span that starts with tick first, to a tick that is not after tick last
+pub record RowsTo (n : ℕ) (ws : List ℕ) (first last : ℕ) (rows : List ℕ) (reached : ℕ) : Type 0 where
+  pub low : first ≤ reached
+  pub high : reached ≤ last
+  pub are : rows ≡ spanRows n ws first reached

@@ -1,71 +1,96 @@
-// The maximal cores of the spans that start with one tick.
+// The scores of the spans that start with one tick, and the members of their cores.
 ghost use mathlib.Core.Path.{_≡_};
-ghost use Prim.Native.Nat.{_+_, _*_, _≤_, _<_, max};
+ghost use Prim.Native.Nat.{_<_};
 ghost use lib.ListN.{length};
-ghost use Rattle.sets.specs.Members.{capacity};
+ghost use Rattle.sets.specs.Members.{members};
 ghost use Rattle.records.specs.Limits.{maxTicks};
 ghost use Rattle.days.specs.Days.{LentDay};
-ghost use Rattle.log.specs.Buffers.{overwrite};
-ghost use Rattle.groups.specs.Lines.{LineSizes, LineRows, LineCores};
-use crate::rows::narrow;
-use crate::rows::tick_rows;
+ghost use Rattle.groups.specs.Lines.{CoreAsked, CoreFound, ScoresBefore, LineFound};
+use crate::rows::narrow_to;
+use crate::rows::span_rows;
 use sets::BadgeSet;
 
-// Puts rows into a table of rows, from an offset on.
-fn put_rows(table: &mut [u64], at: usize, rows: [u64; 64])
-    requires { ⌜ at + capacity ≤ length (now table) ⌝ }
-    ensures { λ _. ⌜ now (table .exit) ≡ overwrite at rows (now (table .entry)) ⌝ }
-{
-    for u in 0..64 {
-        table[at + u] = rows[u];
-    }
+// What is found on a span: its score and, where that is above the lower bound, the members of its core. With it go the rows that were
+// narrowed last, and the last tick of their span.
+struct Found {
+    order: u8,
+    members: u64,
+    rows: [u64; 64],
+    reached: usize,
 }
 
-// Fills a table with the rows of all spans that start with a tick, by last tick. Each span's rows are narrowed from the shorter span's.
-pub(crate) fn fill_line(words: &[u64], n: usize, ticks: usize, first: usize, table: &mut [u64])
-    requires { ⌜ LentDay n ticks (now words) × (first < ticks) × (length (now table) ≡ maxTicks * capacity) ⌝ }
-    ensures { λ _. ⌜ LineRows n ticks (now (words .entry)) first (now (table .exit)) ⌝ }
-{
-    let mut at = first * n;
-    let mut rows = tick_rows(&words[at..at + n]);
-    put_rows(table, first * 64, rows);
-    let next = first + 1;
-    for last in next..ticks {
-        at += n;
-        let narrower = narrow(rows, &words[at..at + n]);
-        rows = narrower;
-        put_rows(table, last * 64, rows);
-    }
-}
-
-// The larger of two orders.
-fn larger(a: u8, b: u8) -> u8
-    ensures { λ r. ⌜ r ≡ max a b ⌝ }
-{
-    if a < b { b } else { a }
-}
-
-// Finds the highest core of the rows in a table, by last tick, the last span first: a core counts only above the orders of the two spans
-// that are one tick longer, which stand in the orders before and after its own.
-pub(crate) fn find_line(
-    table: &[u64],
+// Finds the score of a query on a span between two bounds. Where the bounds meet, they are the score, and no row is looked at; so the rows,
+// which are those of the span to the tick that was reached, are narrowed only where they are needed.
+fn find_core(
+    words: &[u64],
     n: usize,
     ticks: usize,
     first: usize,
-    orders: &mut [u8],
-    members: &mut [u64],
-)
-    requires { ⌜ LineSizes n ticks (now table) (now orders) (now members) ⌝ }
-    ensures { λ _. ⌜ LineCores n ticks first (now (table .entry)) (now (orders .entry)) (now (orders .exit)) (now (members .exit)) ⌝ }
+    last: usize,
+    query: BadgeSet,
+    lower: u8,
+    upper: u8,
+    rows: [u64; 64],
+    reached: usize,
+) -> Found
+    requires { ⌜ CoreAsked n ticks (now words) (members query) first last lower upper rows reached ⌝ }
+    ensures { λ r. ⌜ CoreFound n (now (words .entry)) (members query) first last (r .order) (r .members) (r .rows) (r .reached) ⌝ }
 {
-    let base = BadgeSet::full(n);
-    let mut last = ticks;
-    while first < last {
-        last -= 1;
-        let rows = tick_rows(&table[last * 64..last * 64 + 64]);
-        let above = larger(orders[last], orders[last + 1]);
-        let core = cores::highest_core(rows, base, BadgeSet::EMPTY, above);
-        orders[last] = core.order;
-        members[last] = core.members.to_word();
+    if upper <= lower {
+        return Found {
+            order: lower,
+            members: 0,
+            rows,
+            reached,
+        };
+    }
+    let longer = narrow_to(rows, words, n, ticks, first, reached, last);
+    let core = cores::highest_core(longer, BadgeSet::full(n), query, lower, upper);
+    let members = core.members;
+    Found {
+        order: core.order,
+        members: members.to_word(),
+        rows: longer,
+        reached: last,
+    }
+}
+
+// Finds the scores of a query on the spans that start with a tick, by last tick, and the members of the cores whose order is above the score
+// on the span that is one tick longer at its start. The orders that are given are those of these longer spans: each is a lower bound, and the
+// score on the span that is one tick shorter at its end is an upper bound, since scores fall as spans grow.
+pub(crate) fn find_line(
+    words: &[u64],
+    n: usize,
+    ticks: usize,
+    first: usize,
+    query: BadgeSet,
+    orders: &mut [u8],
+    cores: &mut [u64],
+)
+    requires { ⌜ LentDay n ticks (now words) × (first < ticks) × ScoresBefore n ticks (now words) (members query) first (now orders) × (length (now cores) ≡ maxTicks) ⌝ }
+    ensures { λ _. ⌜ LineFound n ticks (now (words .entry)) (members query) first (now (orders .entry)) (now (orders .exit)) (now (cores .exit)) ⌝ }
+{
+    let mut rows = span_rows(words, n, ticks, first, first);
+    let mut reached = first;
+    let mut upper: u8 = 64;
+    for last in first..ticks {
+        let found = find_core(
+            words,
+            n,
+            ticks,
+            first,
+            last,
+            query,
+            orders[last],
+            upper,
+            rows,
+            reached,
+        );
+        let narrowed = found.rows;
+        rows = narrowed;
+        reached = found.reached;
+        upper = found.order;
+        orders[last] = found.order;
+        cores[last] = found.members;
     }
 }

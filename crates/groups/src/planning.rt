@@ -52,7 +52,7 @@ fn append_part(
     ensures { λ r. ⌜ AppendsCores 80 84 13 (partOn n (now (words .entry)) (members query) first last ∷ []) count r (now (buffer .entry)) (now (buffer .exit)) ⌝ }
 {
     let rows = span_rows(words, n, ticks, first, last);
-    let core = cores::highest_core(rows, BadgeSet::full(n), query, 0);
+    let core = cores::highest_core(rows, BadgeSet::full(n), query, 0, 64);
     let members = shown(core.order, core.members, n);
     append_core(
         buffer,

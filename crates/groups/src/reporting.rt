@@ -4,6 +4,7 @@ ghost use mathlib.Core.List.{_∷_, []};
 ghost use Prim.Native.Nat.{_+_, _*_, _≤_, _<_};
 ghost use lib.Dec.{ltb};
 ghost use lib.ListN.{length};
+ghost use Rattle.sets.specs.Bools.{_and_};
 ghost use Rattle.sets.specs.Tables.{keepIf};
 ghost use Rattle.records.specs.Limits.{maxTicks};
 ghost use Rattle.records.specs.Outcomes.{success};
@@ -18,7 +19,6 @@ ghost use Rattle.groups.specs.GroupReports.{Reported};
 use crate::answer::Written;
 use crate::answer::delivered;
 use crate::encoding::append_core;
-use crate::lines::fill_line;
 use crate::lines::find_line;
 use crate::refusal::Refusal;
 use log::Checked;
@@ -26,20 +26,26 @@ use log::Record;
 use log::check_words;
 use log::put;
 use log::put_record;
+use sets::BadgeSet;
 
-// Appends a group's record if it has members.
+// Appends a group's record if it has members and its order is above the next: else the span that is one tick longer at its end has a core of
+// the same order.
 fn append_group(
     buffer: &mut [u8],
     count: usize,
     order: u8,
+    next: u8,
     first: usize,
     last: usize,
     members: u64,
 ) -> usize
     requires { ⌜ (4 + 13 * count + 13 ≤ length (now buffer)) × (first < maxTicks) × (last < maxTicks) ⌝ }
-    ensures { λ r. ⌜ AppendsCores 71 82 4 (keepIf (ltb 0 members) (record { order = order; first = first; last = last; members = members } ∷ [])) count r (now (buffer .entry)) (now (buffer .exit)) ⌝ }
+    ensures { λ r. ⌜ AppendsCores 71 82 4 (keepIf (ltb 0 members and ltb next order) (record { order = order; first = first; last = last; members = members } ∷ [])) count r (now (buffer .entry)) (now (buffer .exit)) ⌝ }
 {
     if members == 0 {
+        return count;
+    }
+    if order <= next {
         return count;
     }
     append_core(buffer, 4, count, b'G', b'R', order, first, last, members)
@@ -59,7 +65,15 @@ fn append_line(
 {
     let mut so_far = count;
     for last in first..ticks {
-        let appended = append_group(buffer, so_far, orders[last], first, last, members[last]);
+        let appended = append_group(
+            buffer,
+            so_far,
+            orders[last],
+            orders[last + 1],
+            first,
+            last,
+            members[last],
+        );
         so_far = appended;
     }
     so_far
@@ -72,13 +86,19 @@ fn encode_report(words: &[u64], n: usize, ticks: usize, buffer: &mut [u8]) -> us
 {
     let header = [b'R', b'H', n as u8, ticks as u8];
     put(buffer, 0, &header);
-    let mut table = [0u64; 6144];
     let mut orders = [0u8; 97];
     let mut members = [0u64; 96];
     let mut count: usize = 0;
     for first in 0..ticks {
-        fill_line(words, n, ticks, first, &mut table);
-        find_line(&table, n, ticks, first, &mut orders, &mut members);
+        find_line(
+            words,
+            n,
+            ticks,
+            first,
+            BadgeSet::EMPTY,
+            &mut orders,
+            &mut members,
+        );
         let appended = append_line(buffer, count, &orders, &members, first, ticks);
         count = appended;
     }

@@ -3,7 +3,7 @@ ghost use mathlib.Core.Path.{_≡_};
 ghost use Prim.Native.Nat.{min};
 ghost use lib.ListN.{length};
 ghost use Rattle.spans.specs.Spans.{spanRows, SpanOfDay};
-ghost use Rattle.groups.specs.Steps.{tickRows, narrowed, Narrows};
+ghost use Rattle.groups.specs.Steps.{tickRows, narrowed, Narrows, RowsTo};
 
 // The smaller of a tick's number of words and 64.
 fn row_count(tick: &[u64]) -> usize
@@ -35,7 +35,30 @@ pub(crate) fn narrow(rows: [u64; 64], tick: &[u64]) -> [u64; 64]
     out
 }
 
-// The rows of the span from tick first to tick last, narrowed tick by tick.
+// The rows of the span from tick first to tick last, narrowed tick by tick from those of the span to an earlier tick.
+pub(crate) fn narrow_to(
+    rows: [u64; 64],
+    words: &[u64],
+    n: usize,
+    ticks: usize,
+    first: usize,
+    reached: usize,
+    last: usize,
+) -> [u64; 64]
+    requires { ⌜ SpanOfDay n ticks (now words) first last × RowsTo n (now words) first last rows reached ⌝ }
+    ensures { λ r. ⌜ r ≡ spanRows n (now (words .entry)) first last ⌝ }
+{
+    let mut out = rows;
+    let mut at = reached * n;
+    for _ in reached..last {
+        at += n;
+        let narrower = narrow(out, &words[at..at + n]);
+        out = narrower;
+    }
+    out
+}
+
+// The rows of the span from tick first to tick last.
 pub(crate) fn span_rows(
     words: &[u64],
     n: usize,
@@ -46,12 +69,7 @@ pub(crate) fn span_rows(
     requires { ⌜ SpanOfDay n ticks (now words) first last ⌝ }
     ensures { λ r. ⌜ r ≡ spanRows n (now (words .entry)) first last ⌝ }
 {
-    let mut at = first * n;
-    let mut rows = tick_rows(&words[at..at + n]);
-    for _ in first..last {
-        at += n;
-        let narrower = narrow(rows, &words[at..at + n]);
-        rows = narrower;
-    }
-    rows
+    let at = first * n;
+    let rows = tick_rows(&words[at..at + n]);
+    narrow_to(rows, words, n, ticks, first, first, last)
 }

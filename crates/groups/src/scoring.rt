@@ -5,31 +5,17 @@ ghost use lib.ListN.{length};
 ghost use Rattle.sets.specs.Members.{members};
 ghost use Rattle.records.specs.Limits.{maxTicks};
 ghost use Rattle.days.specs.Days.{LentDay};
-ghost use Rattle.groups.specs.Scoring.{ScoreSizes, LineScores, Scores};
-use crate::lines::fill_line;
-use crate::rows::tick_rows;
+ghost use Rattle.groups.specs.Scoring.{LinePlaces, LinePut, Scores};
+use crate::lines::find_line;
 use sets::BadgeSet;
 
-// Scores the runs that start with a tick, from the rows in a table. No score is below the bound of its last tick: the score of the run that is
-// one tick longer at its start.
-fn score_line(
-    table: &[u64],
-    n: usize,
-    ticks: usize,
-    first: usize,
-    query: BadgeSet,
-    bounds: &mut [u8],
-    scores: &mut [u8],
-)
-    requires { ⌜ ScoreSizes n ticks first (now table) (now bounds) (now scores) ⌝ }
-    ensures { λ _. ⌜ LineScores n ticks first (members query) (now (table .entry)) (now (bounds .entry)) (now (bounds .exit)) (now (scores .entry)) (now (scores .exit)) ⌝ }
+// Puts the scores of the runs that start with a tick into its row of a table.
+fn put_line(orders: &[u8], first: usize, ticks: usize, scores: &mut [u8])
+    requires { ⌜ LinePlaces ticks first (now orders) (now scores) ⌝ }
+    ensures { λ _. ⌜ LinePut ticks first (now (orders .entry)) (now (scores .entry)) (now (scores .exit)) ⌝ }
 {
-    let base = BadgeSet::full(n);
     for last in first..ticks {
-        let rows = tick_rows(&table[last * 64..last * 64 + 64]);
-        let core = cores::highest_core(rows, base, query, bounds[last]);
-        bounds[last] = core.order;
-        scores[first * 96 + last] = core.order;
+        scores[first * 96 + last] = orders[last];
     }
 }
 
@@ -38,10 +24,10 @@ pub(crate) fn fill_scores(words: &[u64], n: usize, ticks: usize, query: BadgeSet
     requires { ⌜ LentDay n ticks (now words) × (length (now scores) ≡ maxTicks * maxTicks) ⌝ }
     ensures { λ _. ⌜ Scores n ticks (now (words .entry)) (members query) ticks (now (scores .exit)) ⌝ }
 {
-    let mut table = [0u64; 6144];
-    let mut bounds = [0u8; 96];
+    let mut orders = [0u8; 97];
+    let mut members = [0u64; 96];
     for first in 0..ticks {
-        fill_line(words, n, ticks, first, &mut table);
-        score_line(&table, n, ticks, first, query, &mut bounds, scores);
+        find_line(words, n, ticks, first, query, &mut orders, &mut members);
+        put_line(&orders, first, ticks, scores);
     }
 }

@@ -16,15 +16,14 @@ use Rattle.sets.proofs.Bools.{clash, and-in, and-left, and-right, or-left, or-r
 use Rattle.sets.proofs.Sets.{sub-refl, sub-trans, sub-pos}
 use Rattle.sets.proofs.Size.{size-full}
 use Rattle.sets.proofs.Concat.{concat-nil, concat-only, keep-nil, keep-all}
-use Rattle.cores.specs.Cores.{core}
 use Rattle.cores.specs.Orders.{score}
 use Rattle.cores.proofs.Cores.{core-mono, core-order}
-use Rattle.cores.proofs.Orders.{contains-of, contains-in, score-of, score-in, top-of, top-in, top-score, highest-yes, highest-no}
+use Rattle.cores.proofs.Orders.{contains-of, contains-in, score-of, score-in, score-le, top-of, top-in, top-score}
 use Rattle.spans.specs.Spans.{isSpan, spanNeighbours}
 use Rattle.spans.specs.SpanCores.{SpanCore, coreOn, hasCore, topOn}
 use Rattle.spans.specs.Plans.{scoreOn}
 use Rattle.spans.specs.Reports.{asLarge, same, isMaximal, isGroup, groupsOn}
-use Rattle.spans.specs.LongerSpans.{topBefore, topAfter, groupMembers}
+use Rattle.spans.specs.LongerSpans.{scoreBefore, topBefore, topAfter, newMembers}
 use Rattle.spans.proofs.SpanRows.{span-fewer, span-in, span-of}
 
 -- a core of order k is there exactly up to the largest order of the span
@@ -54,6 +53,15 @@ pub before-more : (n : ℕ) (ws : List ℕ) (first last : ℕ) → topBefore n w
 unfolding topBefore
 before-more n ws first last = refl
 
+-- the score of a query on that span
+pub score-before-none : (n : ℕ) (ws : List ℕ) (query last : ℕ) → scoreBefore n ws query 0 last ≡ 0
+unfolding scoreBefore
+score-before-none n ws query last = refl
+
+pub score-before-more : (n : ℕ) (ws : List ℕ) (query first last : ℕ) → scoreBefore n ws query (suc first) last ≡ scoreOn n ws query first last
+unfolding scoreBefore
+score-before-more n ws query first last = refl
+
 -- the score of a query falls as a span grows: the core on a span lies in the core of the same order on every span within it
 pub score-falls : (n : ℕ) (ws : List ℕ) (query first last first′ last′ : ℕ) → first′ ≤ first → last ≤ last′
     → scoreOn n ws query first′ last′ ≤ scoreOn n ws query first last
@@ -77,6 +85,24 @@ unfolding scoreOn
 top-falls n ws first last first′ last′ l r =
     let h : score (spanNeighbours n ws first′ last′) (full n) 0 ≤ score (spanNeighbours n ws first last) (full n) 0 = score-falls n ws 0 first last first′ last′ l r in
     omega (arith, score-top n ws first last, score-top n ws first′ last′)
+
+-- of the empty query, on a span and on the one that is longer at its start
+pub score-zero : (n : ℕ) (ws : List ℕ) (first last : ℕ) → scoreOn n ws 0 first last ≡ topOn n ws first last
+unfolding scoreOn
+score-zero n ws first last = score-top n ws first last
+
+before-score : (n : ℕ) (ws : List ℕ) (first last : ℕ) → scoreBefore n ws 0 first last ≡ topBefore n ws first last
+before-score n ws zero last = score-before-none n ws 0 last ∙ sym (before-none n ws last)
+before-score n ws (suc first) last = score-before-more n ws 0 first last ∙ score-zero n ws first last ∙ sym (before-more n ws first last)
+
+-- the score on the longer span is no larger, and no score is above n
+pub score-before-le : (n : ℕ) (ws : List ℕ) (query first last : ℕ) → scoreBefore n ws query first last ≤ scoreOn n ws query first last
+score-before-le n ws query zero last = omega (arith, score-before-none n ws query last)
+score-before-le n ws query (suc first) last = omega (arith, score-before-more n ws query first last, score-falls n ws query (suc first) last first last (omega arith) (omega arith))
+
+pub score-on-le : (n : ℕ) (ws : List ℕ) (query first last : ℕ) → scoreOn n ws query first last ≤ n
+unfolding scoreOn
+score-on-le n ws query first last = omega (arith, score-le (spanNeighbours n ws first last) (full n) query, size-full n)
 
 -- the largest order on the span that is one tick longer at its end, if there is one
 pub after-yes : (n T : ℕ) (ws : List ℕ) (first last : ℕ) → suc last < T → topAfter n T ws first last ≡ topOn n ws first (suc last)
@@ -192,19 +218,20 @@ module _ (n T : ℕ) (ws : List ℕ) (first last : ℕ) (m : first ≤ last) (w 
               le (inl y) = omega arith
               le (inr y) = omega arith
 
--- the members of the maximal core on a span, where there is one and where there is none
-module _ (n T : ℕ) (ws : List ℕ) (first last : ℕ) where
-  pub members-yes : max (topBefore n ws first last) (topAfter n T ws first last) < topOn n ws first last → groupMembers n T ws first last ≡ coreOn n ws (topOn n ws first last) first last
-  unfolding groupMembers coreOn
-  members-yes h = highest-yes _ _ 0 _ (omega (arith, score-top n ws first last)) ∙ ap (core (spanNeighbours n ws first last) (full n)) (score-top n ws first last)
+-- the members of the core of a score that is above that on the longer span, and none where it is not
+module _ (n : ℕ) (ws : List ℕ) (query first last : ℕ) where
+  pub new-yes : scoreBefore n ws query first last < scoreOn n ws query first last → newMembers n ws query first last ≡ coreOn n ws (scoreOn n ws query first last) first last
+  unfolding newMembers
+  new-yes h = rw (lt-ltb (scoreBefore n ws query first last) (scoreOn n ws query first last) h, newMembers)
 
-  pub members-no : topOn n ws first last ≤ max (topBefore n ws first last) (topAfter n T ws first last) → groupMembers n T ws first last ≡ 0
-  unfolding groupMembers
-  members-no h = highest-no _ _ 0 _ (omega (arith, score-top n ws first last))
+  pub new-no : scoreOn n ws query first last ≤ scoreBefore n ws query first last → newMembers n ws query first last ≡ 0
+  unfolding newMembers
+  new-no h = rw (le-ltb (scoreBefore n ws query first last) (scoreOn n ws query first last) h, newMembers)
 
--- So the groups on a span are the one with these members, of the largest order, if there are any.
+-- So the groups on a span are the one with these members, of the largest order, if there are any and the order is above that after it.
 pub groups-on : (n T : ℕ) (ws : List ℕ) (first last : ℕ) → first ≤ last → last < T
-    → groupsOn n T ws first last ≡ keepIf (ltb 0 (groupMembers n T ws first last)) (record { order = topOn n ws first last; first = first; last = last; members = groupMembers n T ws first last } ∷ [])
+    → groupsOn n T ws first last
+    ≡ keepIf (ltb 0 (newMembers n ws 0 first last) and ltb (topAfter n T ws first last) (topOn n ws first last)) (record { order = topOn n ws first last; first = first; last = last; members = newMembers n ws 0 first last } ∷ [])
 unfolding groupsOn hasCore
 groups-on n T ws first last m w = by-cases (decLt (max (topBefore n ws first last) (topAfter n T ws first last)) (topOn n ws first last)) yes′ no′
   where
@@ -215,20 +242,23 @@ groups-on n T ws first last m w = by-cases (decLt (max (topBefore n ws first las
     at k = keepIf (isGroup n T ws k first last) (record { order = k; first = first; last = last; members = coreOn n ws k first last } ∷ [])
 
     yes′ : max (topBefore n ws first last) (topAfter n T ws first last) < t
-        → concatBelow (suc n) at ≡ keepIf (ltb 0 (groupMembers n T ws first last)) (record { order = t; first = first; last = last; members = groupMembers n T ws first last } ∷ [])
+        → concatBelow (suc n) at ≡ keepIf (ltb 0 (newMembers n ws 0 first last) and ltb (topAfter n T ws first last) t) (record { order = t; first = first; last = last; members = newMembers n ws 0 first last } ∷ [])
     yes′ h =
         let g = group-in n T ws first last m w (omega arith) (omega arith) in
-        let e = members-yes n T ws first last h in
+        let e : newMembers n ws 0 first last ≡ coreOn n ws t first last =
+        new-yes n ws 0 first last (omega (arith, before-score n ws first last, score-zero n ws first last)) ∙ ap (λ (k : ℕ). coreOn n ws k first last) (score-zero n ws first last) in
         let p : ltb 0 (coreOn n ws t first last) ≡ true = has-core (has-top n ws t first last (omega arith) (le-refl _)) in
         concat-only (suc n) at t (suc-le-suc (top-le n ws first last)) (λ k l d. keep-nil _ _ (λ f. d (group-of n T ws first last m w k f .0)))
-        ∙ keep-all _ _ g ∙ rw e (sym (keep-all _ _ p))
+        ∙ keep-all _ _ g ∙ rw e (sym (keep-all _ _ (and-in _ _ p (lt-ltb (topAfter n T ws first last) t (omega arith)))))
       where
         has-core : hasCore n ws t first last ≡ true → ltb 0 (coreOn n ws t first last) ≡ true
         has-core f = f
 
     no′ : (max (topBefore n ws first last) (topAfter n T ws first last) < t → ⊥)
-        → concatBelow (suc n) at ≡ keepIf (ltb 0 (groupMembers n T ws first last)) (record { order = t; first = first; last = last; members = groupMembers n T ws first last } ∷ [])
+        → concatBelow (suc n) at ≡ keepIf (ltb 0 (newMembers n ws 0 first last) and ltb (topAfter n T ws first last) t) (record { order = t; first = first; last = last; members = newMembers n ws 0 first last } ∷ [])
     no′ h =
-        let e = members-no n T ws first last (omega arith) in
         concat-nil (suc n) at (λ k l. keep-nil _ _ (λ f. let r = group-of n T ws first last m w k f in h (omega (arith, r .0, r .1, r .2))))
-        ∙ sym (keep-nil _ _ (λ f. omega (arith, ltb-true 0 (groupMembers n T ws first last) f)))
+        ∙ sym (keep-nil _ _ (λ f.
+        let a = ltb-true 0 (newMembers n ws 0 first last) (and-left _ _ f) in
+        let b = ltb-true (topAfter n T ws first last) t (and-right _ _ f) in
+        omega (arith, new-no n ws 0 first last (omega (arith, before-score n ws first last, score-zero n ws first last)))))

@@ -1,14 +1,14 @@
--- `highest::highest_core` is safe, and ends: no order above 64 is tried.
+-- `highest::highest_core` is safe, and ends.
 use Prim.Native.Nat.{_-_}
 use borrow.Author.Needs.{needs}
 use Rattle.acceptance_groups.proofs.highest.highest_core.Statement.{statement}
 use Rattle.acceptance_groups.proofs.highest.highest_core.Tie as tie
 
 abbrev Inv-loop : tie.InvT-loop
-Inv-loop table base query core₀ order₀ core order = Unit
+Inv-loop table base query stop core₀ order₀ core order = Unit
 
 abbrev μ-loop : tie.MeasureT-loop
-μ-loop table base query core₀ order₀ core order = 65 - order
+μ-loop table base query stop core₀ order₀ core order = stop - order
 
 add-order : tie.Need-add-order Inv-loop μ-loop
 add-order c = search needs

@@ -34,6 +34,9 @@ add-bound c = search needs
 draw-requires-2 : tie.Need-draw-requires-2 Inv-loop μ-loop
 draw-requires-2 c κs = search needs
 
+draw-requires-3 : tie.Need-draw-requires-3 Inv-loop μ-loop
+draw-requires-3 c κs = search needs
+
 highest-case-requires : tie.Need-highest-case-requires Inv-loop μ-loop
 highest-case-requires c κs = search needs
 
@@ -63,6 +66,7 @@ highest-core-spec =
     draw-requires
     add-bound
     draw-requires-2
+    draw-requires-3
     highest-case-requires
     add-counter
     loop-less

@@ -1,11 +1,11 @@
 -- `peeling::pass` meets its contract. What is left holds every cohesive subset of the set; while nobody is dropped, the members no
--- longer unseen have neighbours enough. The walk ends as the unseen members get fewer.
+-- longer unseen have neighbours enough, and the smallest of their degrees is at hand. The walk ends as the unseen members get fewer.
 use Prim.Native.Nat.{_^_, _<_}
 use native.Mathlib.Omega.{arith}
 use borrow.Author.Needs.{needs}
 use Rattle.sets.specs.Sets.{In, size}
 use Rattle.sets.specs.Members.{capacity, members}
-use Rattle.sets.proofs.Size.{size-without}
+use Rattle.sets.proofs.Size.{size-le, size-without}
 use Rattle.sets.proofs.Walks.{smallest-unseen, none-unseen}
 use Rattle.cores.specs.Rows.{graph}
 use Rattle.cores.proofs.Peeled.{Passing, pass-none, pass-more, pass-done}
@@ -13,10 +13,10 @@ use Rattle.cores.proofs.peeling.pass.Statement.{statement}
 use Rattle.cores.proofs.peeling.pass.Tie as tie
 
 abbrev Inv-loop : tie.InvT-loop
-Inv-loop rows order left₀ unseen₀ left unseen = Passing (graph rows) order (members left₀) (members left) (members unseen)
+Inv-loop rows order kept₀ unseen₀ kept unseen = Passing (graph rows) order (members unseen₀) (members (kept .members)) (kept .least) (members unseen)
 
 abbrev μ-loop : tie.MeasureT-loop
-μ-loop rows order left₀ unseen₀ left unseen = size (members unseen)
+μ-loop rows order kept₀ unseen₀ kept unseen = size (members unseen)
 
 -- the badge at hand is one of the unseen, and below the capacity
 at-hand : (i : tie.After-smallest Inv-loop μ-loop) → In (members (i .before .before .before .loop .unseen)) (i .smallest .result) × (i .smallest .result < capacity)
@@ -34,14 +34,14 @@ is-empty-requires c κs = search needs
 smallest-requires : tie.Need-smallest-requires Inv-loop μ-loop
 smallest-requires c κs = search needs
 
-mul-without-low : tie.Need-mul-without-low Inv-loop μ-loop
-mul-without-low c = omega (arith, at-hand c .1)
+mul-look-at : tie.Need-mul-look-at Inv-loop μ-loop
+mul-look-at c = omega (arith, at-hand c .1)
 
-element-copy-out-without-low : tie.Need-element-copy-out-without-low Inv-loop μ-loop
-element-copy-out-without-low c = omega (arith, at-hand c .1)
+element-copy-out-look-at : tie.Need-element-copy-out-look-at Inv-loop μ-loop
+element-copy-out-look-at c = omega (arith, at-hand c .1)
 
-without-low-requires : tie.Need-without-low-requires Inv-loop μ-loop
-without-low-requires c κs = search needs
+look-at-requires : tie.Need-look-at-requires Inv-loop μ-loop
+look-at-requires c κs = search needs
 
 without-requires : tie.Need-without-requires Inv-loop μ-loop
 without-requires c κs = search needs
@@ -52,10 +52,12 @@ loop-less c = let i = c .before .before .before in rw (c .without .ensures) (siz
 loop-again : tie.Need-loop-again Inv-loop μ-loop
 loop-again c =
     let i = c .before .before .before in
-    rw (c .without .ensures, c .before .without-low .ensures) (pass-more (i .before .before .before .loop .inv) (i .smallest .result) (at-hand i .0))
+    rw (c .without .ensures) (pass-more (i .before .before .before .loop .inv) (i .smallest .result) (at-hand i .0) (c .before .look-at .ensures))
 
 returns : tie.Need-returns Inv-loop μ-loop
-returns c = pass-done (c .before .before .loop .inv) (none-unseen (c .before .is-empty .ensures) (c .if1 .left))
+returns c =
+    let s = members (c .before .before .before .args .s) in
+    pass-done (c .before .before .loop .inv) (size-le capacity s (omega arith)) (none-unseen (c .before .is-empty .ensures) (c .if1 .left))
 
 pub pass-spec : {M : Type 1} → statement M
 pass-spec =
@@ -66,9 +68,9 @@ pass-spec =
     loop-holds
     is-empty-requires
     smallest-requires
-    mul-without-low
-    element-copy-out-without-low
-    without-low-requires
+    mul-look-at
+    element-copy-out-look-at
+    look-at-requires
     without-requires
     loop-less
     loop-again

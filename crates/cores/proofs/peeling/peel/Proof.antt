@@ -12,7 +12,9 @@ induce-requires : tie.Need-induce-requires
 induce-requires c κs = search needs
 
 returns : tie.Need-returns
-returns c = c .induce .ensures ∙ ap (induced (c .before .before .before .args .t1)) (c .before .core .ensures)
+returns c =
+    let k = c .before .before .core .ensures in
+    record { cut = c .induce .ensures ∙ ap (induced (c .before .before .before .before .args .t1)) (k .members); members = k .members; least = k .least }
 
 pub peel-spec : {M : Type 1} → statement M
 peel-spec = tie.close (tie.spec core-requires induce-requires returns)

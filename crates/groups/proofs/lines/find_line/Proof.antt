@@ -1,98 +1,75 @@
--- `find_line` meets its contract: from tick `last` on the orders and members are those of the cores found, and the orders before it are still
--- those that were given.
-use mathlib.Core.Path.{_∙_}
+-- `find_line` meets its contract: at the turn of a last tick the spans that end before it have been found.
+use mathlib.Core.Path.{sym, _∙_}
+use Prim.Native.Nat.{_-_, _<_}
 use native.Mathlib.Omega.{arith}
+use lib.ListN.{length}
 use borrow.Author.Needs.{needs}
-use Rattle.groups.proofs.LineLoops.{Finding, finding-start, finding-next, finding-end}
+use Rattle.sets.specs.Members.{members}
+use Rattle.records.proofs.WithinLimits.{limits-of}
+use Rattle.groups.proofs.LineLoops.{Finding, first-span, finding-start, finding-asks, place-orders, place-members, finding-next, finding-end}
 use Rattle.groups.proofs.lines.find_line.Statement.{statement}
 use Rattle.groups.proofs.lines.find_line.Tie as tie
 
 abbrev Inv-loop : tie.InvT-loop
-Inv-loop table n ticks first orders₀ members₀ base last₀ orders members last = Finding n ticks table orders₀ last orders members
+Inv-loop words n ticks first query orders₀ cores₀ rows₀ reached₀ upper₀ last₀ orders cores rows reached upper last =
+    Finding n ticks words (members query) first orders₀ last rows reached upper orders cores
 
 abbrev μ-loop : tie.MeasureT-loop
-μ-loop table n ticks first orders₀ members₀ base last₀ orders members last = last
+μ-loop words n ticks first query orders₀ cores₀ rows₀ reached₀ upper₀ last₀ orders cores rows reached upper last = ticks - last
 
-full-requires : tie.Need-full-requires Inv-loop μ-loop
-full-requires c κs = search needs
+-- the last tick at hand is a place of both lists
+at-orders : (i : tie.In-loop Inv-loop μ-loop) → i .before .loop .last < length (i .before .loop .orders)
+at-orders i =
+    let p = i .before .before .before .before .before .before .pre in
+    place-orders (p .0) (p .1) (p .2) (i .before .loop .inv) (i .loop-test .taken)
+
+at-cores : (i : tie.In-loop Inv-loop μ-loop) → i .before .loop .last < length (i .before .loop .cores)
+at-cores i =
+    let p = i .before .before .before .before .before .before .pre in
+    place-members (p .0) (p .1) (p .2) (i .before .loop .inv) (i .loop-test .taken)
+
+span-rows-requires : tie.Need-span-rows-requires Inv-loop μ-loop
+span-rows-requires c κs = let p = c .before .before .before .pre in first-span (p .0) (p .1)
 
 loop-holds : tie.Need-loop-holds Inv-loop μ-loop
-loop-holds c = finding-start (c .before .before .before .before .pre)
+loop-holds c = let p = c .before .before .before .before .pre in finding-start (p .0) (p .1) (p .2) (c .span-rows .ensures) (p .3)
 
-sub-last : tie.Need-sub-last Inv-loop μ-loop
-sub-last c = search needs
+slice-read-find-core : tie.Need-slice-read-find-core Inv-loop μ-loop
+slice-read-find-core c = at-orders (c .before)
 
-mul-tick-rows : tie.Need-mul-tick-rows Inv-loop μ-loop
-mul-tick-rows c = search needs
-
-mul-tick-rows-2 : tie.Need-mul-tick-rows-2 Inv-loop μ-loop
-mul-tick-rows-2 c = search needs
-
-add-tick-rows : tie.Need-add-tick-rows Inv-loop μ-loop
-add-tick-rows c = search needs
-
-mul-tick-rows-3 : tie.Need-mul-tick-rows-3 Inv-loop μ-loop
-mul-tick-rows-3 c = search needs
-
-sub-tick-rows : tie.Need-sub-tick-rows Inv-loop μ-loop
-sub-tick-rows c = search needs
-
-part-tick-rows-start : tie.Need-part-tick-rows-start Inv-loop μ-loop
-part-tick-rows-start c = search needs
-
-part-tick-rows-end : tie.Need-part-tick-rows-end Inv-loop μ-loop
-part-tick-rows-end c = search needs
-
-tick-rows-requires : tie.Need-tick-rows-requires Inv-loop μ-loop
-tick-rows-requires c κs = search needs
-
-slice-read-larger : tie.Need-slice-read-larger Inv-loop μ-loop
-slice-read-larger c = search needs
-
-add-larger : tie.Need-add-larger Inv-loop μ-loop
-add-larger c = search needs
-
-slice-read-larger-2 : tie.Need-slice-read-larger-2 Inv-loop μ-loop
-slice-read-larger-2 c = search needs
-
-larger-requires : tie.Need-larger-requires Inv-loop μ-loop
-larger-requires c κs = search needs
-
-highest-core-requires : tie.Need-highest-core-requires Inv-loop μ-loop
-highest-core-requires c κs = search needs
+find-core-requires : tie.Need-find-core-requires Inv-loop μ-loop
+find-core-requires c κs =
+    let i = c .before in
+    let p = i .before .before .before .before .before .before .pre in
+    finding-asks (p .0) (p .1) (p .2) (i .before .loop .inv) (i .loop-test .taken)
 
 slice-write-orders : tie.Need-slice-write-orders Inv-loop μ-loop
-slice-write-orders c = search needs
+slice-write-orders c = at-orders (c .before .before .before)
 
-to-word-requires : tie.Need-to-word-requires Inv-loop μ-loop
-to-word-requires c κs = search needs
+mul-cores : tie.Need-mul-cores Inv-loop μ-loop
+mul-cores c = omega (arith, at-cores (c .before .before .before), limits-of (c .before .before .before .before .before .before .before .before .before .pre .0 .limits) .short)
 
-mul-members : tie.Need-mul-members Inv-loop μ-loop
-mul-members c = search needs
+slice-write-cores : tie.Need-slice-write-cores Inv-loop μ-loop
+slice-write-cores c = at-cores (c .before .before .before)
 
-slice-write-members : tie.Need-slice-write-members Inv-loop μ-loop
-slice-write-members c = search needs
+add-last : tie.Need-add-last Inv-loop μ-loop
+add-last c = search needs
 
 loop-less : tie.Need-loop-less Inv-loop μ-loop
 loop-less c = search needs
 
 loop-again : tie.Need-loop-again Inv-loop μ-loop
 loop-again c =
-    let h = c .before in
-    let m = h .before in
-    let t = m .before .before .before in
-    let i = t .before .before in
-    let f = i .before .before in
-    finding-next (f .before .before .before .before .pre) (omega (arith, i .loop-test .taken)) (i .before .loop .inv) (t .tick-rows .ensures) (f .full .ensures)
-    (m .larger .ensures)
-    (h .highest-core .ensures .0)
-    (c .to-word .ensures ∙ h .highest-core .ensures .1)
+    let f = c .before in
+    let i = f .before .before in
+    let p = i .before .before .before .before .before .before .pre in
+    finding-next (p .0) (p .1) (p .2) (i .before .loop .inv) (i .loop-test .taken) (f .find-core .ensures)
 
 same-length : tie.Need-same-length Inv-loop μ-loop
-same-length c = search needs
+same-length c = c .before .loop .inv .found .orders-size
 
 same-length-2 : tie.Need-same-length-2 Inv-loop μ-loop
-same-length-2 c = search needs
+same-length-2 c = c .before .loop .inv .found .members-size ∙ sym (c .before .before .before .before .before .before .pre .3)
 
 returns : tie.Need-returns Inv-loop μ-loop
 returns c = finding-end (c .before .loop .inv) (c .loop-test .left)
@@ -103,26 +80,14 @@ find-line-spec =
     (tie.spec
     Inv-loop
     μ-loop
-    full-requires
+    span-rows-requires
     loop-holds
-    sub-last
-    mul-tick-rows
-    mul-tick-rows-2
-    add-tick-rows
-    mul-tick-rows-3
-    sub-tick-rows
-    part-tick-rows-start
-    part-tick-rows-end
-    tick-rows-requires
-    slice-read-larger
-    add-larger
-    slice-read-larger-2
-    larger-requires
-    highest-core-requires
+    slice-read-find-core
+    find-core-requires
     slice-write-orders
-    to-word-requires
-    mul-members
-    slice-write-members
+    mul-cores
+    slice-write-cores
+    add-last
     loop-less
     loop-again
     same-length

@@ -1,6 +1,7 @@
 -- append_line meets its contract: before the turn of a last tick the records of the spans that end before it are appended.
 use mathlib.Core.Path.{_≡_}
 use Prim.Native.Nat.{_-_, _≤_}
+use native.Mathlib.Numerals.{add-one}
 use native.Mathlib.Omega.{arith}
 use borrow.Author.Needs.{needs}
 use Rattle.sets.specs.Tables.{concatBelow}
@@ -24,16 +25,22 @@ loop-holds c =
 shared-slice-read-append-group : tie.Need-shared-slice-read-append-group Inv-loop μ-loop
 shared-slice-read-append-group c = search needs
 
-mul-append-group : tie.Need-mul-append-group Inv-loop μ-loop
-mul-append-group c = search needs
+add-append-group : tie.Need-add-append-group Inv-loop μ-loop
+add-append-group c = search needs
 
 shared-slice-read-append-group-2 : tie.Need-shared-slice-read-append-group-2 Inv-loop μ-loop
 shared-slice-read-append-group-2 c = search needs
 
+mul-append-group : tie.Need-mul-append-group Inv-loop μ-loop
+mul-append-group c = search needs
+
+shared-slice-read-append-group-3 : tie.Need-shared-slice-read-append-group-3 Inv-loop μ-loop
+shared-slice-read-append-group-3 c = search needs
+
 append-group-requires : tie.Need-append-group-requires Inv-loop μ-loop
 append-group-requires c κs =
-    let i = c .before .before .before .before .loop in
-    let s = c .before .before .before .before .before .before .before .before in
+    let i = c .before .before .before .before .before .loop in
+    let s = c .before .before .before .before .before .before .before .before .before in
     let a = s .args in
     let p = s .pre in
     (omega (arith, i .inv .2 .number, i .inv .2 .size, cells-le (a .orders .now) (a .members .now) (a .first) (i .last), p .room), omega (arith, p .short, p .inside), omega (arith, p .short))
@@ -46,9 +53,9 @@ loop-less c = search needs
 
 loop-again : tie.Need-loop-again Inv-loop μ-loop
 loop-again c =
-    let i = c .before .before .before .before .before .before .before .loop in
-    let a = c .before .before .before .before .before .before .before .before .before .before .before .args in
-    (search needs, search needs, line-more (a .orders .now) (a .members .now) (a .first) (i .last) (i .inv .0) (i .inv .2) (c .before .before .append-group .ensures))
+    let i = c .before .before .before .before .before .before .before .before .loop in
+    let a = c .before .before .before .before .before .before .before .before .before .before .before .before .args in
+    (search needs, search needs, line-more (a .orders .now) (a .members .now) (a .first) (i .last) (i .inv .0) (i .inv .2) (rw add-one at (c .before .before .append-group .ensures)))
 
 same-length : tie.Need-same-length Inv-loop μ-loop
 same-length c = search needs
@@ -67,8 +74,10 @@ append-line-spec =
     μ-loop
     loop-holds
     shared-slice-read-append-group
-    mul-append-group
+    add-append-group
     shared-slice-read-append-group-2
+    mul-append-group
+    shared-slice-read-append-group-3
     append-group-requires
     add-last
     loop-less

@@ -3,22 +3,21 @@ use Prim.Native.Nat.{_-_}
 use native.Mathlib.Omega.{arith}
 use borrow.Author.Needs.{needs}
 use Rattle.records.proofs.WithinLimits.{limits-of}
-use Rattle.groups.proofs.ReportBytes.{ReportSoFar, so-far-none, so-far-sizes, so-far-count, so-far-room, so-far-next, so-far-end}
+use Rattle.groups.proofs.ReportBytes.{ReportSoFar, so-far-none, so-far-count, so-far-room, so-far-next, so-far-end}
 use Rattle.groups.proofs.reporting.encode_report.Statement.{statement}
 use Rattle.groups.proofs.reporting.encode_report.Tie as tie
 
 abbrev Inv-loop : tie.InvT-loop
-Inv-loop words n ticks buffer₀ table₀ orders₀ members₀ count₀ first₀ buffer table orders members count first =
-    ReportSoFar n ticks words first count buffer₀ buffer table orders members
+Inv-loop words n ticks buffer₀ orders₀ members₀ count₀ first₀ buffer orders members count first = ReportSoFar n ticks words first count buffer₀ buffer orders members
 
 abbrev μ-loop : tie.MeasureT-loop
-μ-loop words n ticks buffer₀ table₀ orders₀ members₀ count₀ first₀ buffer table orders members count first = ticks - first
+μ-loop words n ticks buffer₀ orders₀ members₀ count₀ first₀ buffer orders members count first = ticks - first
+
+cast-t11 : tie.Need-cast-t11 Inv-loop μ-loop
+cast-t11 c = omega (arith, limits-of (c .before .before .pre .0 .limits) .few)
 
 cast-t12 : tie.Need-cast-t12 Inv-loop μ-loop
-cast-t12 c = omega (arith, limits-of (c .before .before .pre .0 .limits) .few)
-
-cast-t13 : tie.Need-cast-t13 Inv-loop μ-loop
-cast-t13 c = omega (arith, limits-of (c .before .before .pre .0 .limits) .short)
+cast-t12 c = omega (arith, limits-of (c .before .before .pre .0 .limits) .short)
 
 slice-aggregate-put : tie.Need-slice-aggregate-put Inv-loop μ-loop
 slice-aggregate-put c = search needs
@@ -29,23 +28,17 @@ put-requires c κs = search needs
 loop-holds : tie.Need-loop-holds Inv-loop μ-loop
 loop-holds c = so-far-none _ _ _ _ (c .before .before .before .before .before .before .before .pre .0) (omega arith)
 
-slice-aggregate-fill-line : tie.Need-slice-aggregate-fill-line Inv-loop μ-loop
-slice-aggregate-fill-line c = search needs
-
-fill-line-requires : tie.Need-fill-line-requires Inv-loop μ-loop
-fill-line-requires c κs = (c .before .before .loop .inv .lent, c .before .loop-test .taken, c .before .before .loop .inv .table-size)
-
 slice-aggregate-find-line : tie.Need-slice-aggregate-find-line Inv-loop μ-loop
 slice-aggregate-find-line c = search needs
 
 slice-aggregate-find-line-2 : tie.Need-slice-aggregate-find-line-2 Inv-loop μ-loop
 slice-aggregate-find-line-2 c = search needs
 
-slice-aggregate-find-line-3 : tie.Need-slice-aggregate-find-line-3 Inv-loop μ-loop
-slice-aggregate-find-line-3 c = search needs
-
 find-line-requires : tie.Need-find-line-requires Inv-loop μ-loop
-find-line-requires c κs = so-far-sizes (c .before .before .before .before .before .before .before .loop .inv) (c .before .before .before .before .fill-line .ensures)
+find-line-requires c κs =
+    let i = c .before .before in
+    let s = i .before .loop .inv in
+    (s .lent, i .loop-test .taken, s .before, s .members-size)
 
 slice-aggregate-append-line : tie.Need-slice-aggregate-append-line Inv-loop μ-loop
 slice-aggregate-append-line c = search needs
@@ -54,7 +47,10 @@ slice-aggregate-append-line-2 : tie.Need-slice-aggregate-append-line-2 Inv-loop 
 slice-aggregate-append-line-2 c = search needs
 
 append-line-requires : tie.Need-append-line-requires Inv-loop μ-loop
-append-line-requires c κs = so-far-room (c .before .before .before .before .before .before .before .before .before .before .before .before .before .loop .inv) (c .before .before .before .before .before .before .before .before .before .before .before .before .loop-test .taken) (c .before .before .before .before .before .before .before .before .before .before .fill-line .ensures) (c .before .before .before .before .before .find-line .ensures)
+append-line-requires c κs =
+    let f = c .before .before .before .before .before in
+    let i = f .before .before .before in
+    so-far-room (i .before .loop .inv) (i .loop-test .taken) (f .find-line .ensures)
 
 add-first : tie.Need-add-first Inv-loop μ-loop
 add-first c = search needs
@@ -63,7 +59,11 @@ loop-less : tie.Need-loop-less Inv-loop μ-loop
 loop-less c = search needs
 
 loop-again : tie.Need-loop-again Inv-loop μ-loop
-loop-again c = so-far-next (c .before .before .before .before .before .before .before .before .before .before .before .before .before .before .before .before .loop .inv) (c .before .before .before .before .before .before .before .before .before .before .before .before .before .before .before .loop-test .taken) (c .before .before .before .before .before .before .before .before .before .before .before .before .before .fill-line .ensures) (c .before .before .before .before .before .before .before .before .find-line .ensures) (c .before .before .append-line .ensures)
+loop-again c =
+    let a = c .before .before in
+    let f = a .before .before .before .before .before .before in
+    let i = f .before .before .before in
+    so-far-next (i .before .loop .inv) (i .loop-test .taken) (f .find-line .ensures) (a .append-line .ensures)
 
 mul-put-record : tie.Need-mul-put-record Inv-loop μ-loop
 mul-put-record c = omega (arith, so-far-count (c .before .before .loop .inv))
@@ -71,8 +71,8 @@ mul-put-record c = omega (arith, so-far-count (c .before .before .loop .inv))
 add-put-record : tie.Need-add-put-record Inv-loop μ-loop
 add-put-record c = omega (arith, so-far-count (c .before .before .loop .inv))
 
-cast-t39 : tie.Need-cast-t39 Inv-loop μ-loop
-cast-t39 c = omega (arith, so-far-count (c .before .before .loop .inv))
+cast-t35 : tie.Need-cast-t35 Inv-loop μ-loop
+cast-t35 c = omega (arith, so-far-count (c .before .before .loop .inv))
 
 put-record-requires : tie.Need-put-record-requires Inv-loop μ-loop
 put-record-requires c κs = search needs
@@ -89,16 +89,13 @@ encode-report-spec =
     (tie.spec
     Inv-loop
     μ-loop
+    cast-t11
     cast-t12
-    cast-t13
     slice-aggregate-put
     put-requires
     loop-holds
-    slice-aggregate-fill-line
-    fill-line-requires
     slice-aggregate-find-line
     slice-aggregate-find-line-2
-    slice-aggregate-find-line-3
     find-line-requires
     slice-aggregate-append-line
     slice-aggregate-append-line-2
@@ -108,7 +105,7 @@ encode-report-spec =
     loop-again
     mul-put-record
     add-put-record
-    cast-t39
+    cast-t35
     put-record-requires
     same-length
     returns)

@@ -1,90 +1,47 @@
--- `span_rows` meets its contract: the rows are those of the span from tick `first` to the counter's tick, whose words start at `at`.
-use Prim.Native.Nat.{_+_, _-_, _*_, _≤_}
+-- `span_rows` meets its contract: the rows of the first tick are those of the span of this tick alone.
+use Prim.Native.Nat.{_+_, _*_, _≤_}
 use native.Mathlib.Omega.{arith}
 use lib.ListN.{length}
 use borrow.Author.Needs.{needs}
-use Rattle.groups.proofs.Narrowing.{tick-inside, Going, going-start, next-inside, going-next, going-end}
+use Rattle.groups.proofs.Narrowing.{tick-inside, first-rows}
 use Rattle.groups.proofs.rows.span_rows.Statement.{statement}
 use Rattle.groups.proofs.rows.span_rows.Tie as tie
 
-abbrev Inv-loop : tie.InvT-loop
-Inv-loop words n ticks first last at₀ rows₀ counter₀ at rows counter = Going n words first last counter at rows
+-- the words of the first tick are among the words
+inside : (c : tie.After-shared-slice-known) → let a = c .before .args in a .first * a .n + a .n ≤ length (a .words .now)
+inside c = tick-inside _ (c .before .pre) (c .before .pre .rising)
 
-abbrev μ-loop : tie.MeasureT-loop
-μ-loop words n ticks first last at₀ rows₀ counter₀ at rows counter = last - counter
+mul-at : tie.Need-mul-at
+mul-at c = omega (arith, inside c)
 
--- the words of the first tick, and of the next, are among the words
-start-inside : (c : tie.After-shared-slice-known Inv-loop μ-loop) → let a = c .before .args in a .first * a .n + a .n ≤ length (a .words .now)
-start-inside c = tick-inside _ (c .before .pre) (c .before .pre .rising)
+add-tick-rows : tie.Need-add-tick-rows
+add-tick-rows c = omega (arith, inside c)
 
-inside : (c : tie.In-loop Inv-loop μ-loop) → let a = c .before .before .before .before .before .args in c .before .loop .at + a .n + a .n ≤ length (a .words .now)
-inside c = next-inside (c .before .before .before .before .before .pre) (c .before .loop .inv) (c .loop-test .taken)
+mul-tick-rows : tie.Need-mul-tick-rows
+mul-tick-rows c = omega (arith, inside c)
 
-mul-at : tie.Need-mul-at Inv-loop μ-loop
-mul-at c = omega (arith, start-inside c)
-
-add-tick-rows : tie.Need-add-tick-rows Inv-loop μ-loop
-add-tick-rows c = omega (arith, start-inside c)
-
-mul-tick-rows : tie.Need-mul-tick-rows Inv-loop μ-loop
-mul-tick-rows c = omega (arith, start-inside c)
-
-sub-tick-rows : tie.Need-sub-tick-rows Inv-loop μ-loop
+sub-tick-rows : tie.Need-sub-tick-rows
 sub-tick-rows c = search needs
 
-part-tick-rows-start : tie.Need-part-tick-rows-start Inv-loop μ-loop
+part-tick-rows-start : tie.Need-part-tick-rows-start
 part-tick-rows-start c = search needs
 
-part-tick-rows-end : tie.Need-part-tick-rows-end Inv-loop μ-loop
-part-tick-rows-end c = omega (arith, start-inside c)
+part-tick-rows-end : tie.Need-part-tick-rows-end
+part-tick-rows-end c = omega (arith, inside c)
 
-tick-rows-requires : tie.Need-tick-rows-requires Inv-loop μ-loop
+tick-rows-requires : tie.Need-tick-rows-requires
 tick-rows-requires c κs = search needs
 
-loop-holds : tie.Need-loop-holds Inv-loop μ-loop
-loop-holds c = going-start (c .before .before .before .pre) (c .tick-rows .ensures)
+narrow-to-requires : tie.Need-narrow-to-requires
+narrow-to-requires c κs = let p = c .before .before .before .pre in (p, first-rows p (c .tick-rows .ensures))
 
-add-at : tie.Need-add-at Inv-loop μ-loop
-add-at c = omega (arith, inside c)
-
-add-narrow : tie.Need-add-narrow Inv-loop μ-loop
-add-narrow c = omega (arith, inside c)
-
-mul-narrow : tie.Need-mul-narrow Inv-loop μ-loop
-mul-narrow c = omega (arith, inside c)
-
-sub-narrow : tie.Need-sub-narrow Inv-loop μ-loop
-sub-narrow c = search needs
-
-part-narrow-start : tie.Need-part-narrow-start Inv-loop μ-loop
-part-narrow-start c = search needs
-
-part-narrow-end : tie.Need-part-narrow-end Inv-loop μ-loop
-part-narrow-end c = omega (arith, inside c)
-
-narrow-requires : tie.Need-narrow-requires Inv-loop μ-loop
-narrow-requires c κs = search needs
-
-add-counter : tie.Need-add-counter Inv-loop μ-loop
-add-counter c = search needs
-
-loop-less : tie.Need-loop-less Inv-loop μ-loop
-loop-less c = search needs
-
-loop-again : tie.Need-loop-again Inv-loop μ-loop
-loop-again c =
-    let l = c .before .before in
-    going-next (l .before .before .before .before .before .pre) (l .before .loop .inv) (l .loop-test .taken) (c .narrow .ensures .1)
-
-returns : tie.Need-returns Inv-loop μ-loop
-returns c = going-end (c .before .loop .inv) (c .loop-test .left)
+returns : tie.Need-returns
+returns c = search needs
 
 pub span-rows-spec : {M : Type 1} → statement M
 span-rows-spec =
     tie.close
     (tie.spec
-    Inv-loop
-    μ-loop
     mul-at
     add-tick-rows
     mul-tick-rows
@@ -92,15 +49,5 @@ span-rows-spec =
     part-tick-rows-start
     part-tick-rows-end
     tick-rows-requires
-    loop-holds
-    add-at
-    add-narrow
-    mul-narrow
-    sub-narrow
-    part-narrow-start
-    part-narrow-end
-    narrow-requires
-    add-counter
-    loop-less
-    loop-again
+    narrow-to-requires
     returns)

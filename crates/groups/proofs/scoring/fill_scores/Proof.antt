@@ -1,38 +1,42 @@
--- `fill_scores` meets its contract: at the turn of `first` the runs that start before it are scored, and no bound is above the score of the run
--- from it to the bound's last tick.
+-- `fill_scores` meets its contract: at the turn of `first` the runs that start before it are scored, and the scores of those that start one
+-- tick before it are at hand.
+use mathlib.Core.Path.{sym, _∙_}
 use Prim.Native.Nat.{_-_}
 use borrow.Author.Needs.{needs}
 use Rattle.sets.specs.Members.{members}
-use Rattle.groups.proofs.ScoreLines.{ScoresBefore, scores-none, sizes-here, scores-more, scores-all}
+use Rattle.groups.proofs.ScoreLines.{ScoredBefore, scored-none, scored-places, scored-more, scored-all}
 use Rattle.groups.proofs.scoring.fill_scores.Statement.{statement}
 use Rattle.groups.proofs.scoring.fill_scores.Tie as tie
 
 abbrev Inv-loop : tie.InvT-loop
-Inv-loop words n ticks query scores₀ table₀ bounds₀ first₀ scores table bounds first = ScoresBefore n ticks words (members query) first table bounds scores
+Inv-loop words n ticks query scores₀ orders₀ cores₀ first₀ scores orders cores first = ScoredBefore n ticks words (members query) first orders cores scores
 
 abbrev μ-loop : tie.MeasureT-loop
-μ-loop words n ticks query scores₀ table₀ bounds₀ first₀ scores table bounds first = ticks - first
+μ-loop words n ticks query scores₀ orders₀ cores₀ first₀ scores orders cores first = ticks - first
 
 loop-holds : tie.Need-loop-holds Inv-loop μ-loop
-loop-holds c = let p = c .before .before .pre in scores-none (p .0) _ (p .1)
+loop-holds c = let p = c .before .before .pre in scored-none (p .0) _ (p .1)
 
-slice-aggregate-fill-line : tie.Need-slice-aggregate-fill-line Inv-loop μ-loop
-slice-aggregate-fill-line c = search needs
+slice-aggregate-find-line : tie.Need-slice-aggregate-find-line Inv-loop μ-loop
+slice-aggregate-find-line c = search needs
 
-fill-line-requires : tie.Need-fill-line-requires Inv-loop μ-loop
-fill-line-requires c κs = search needs
+slice-aggregate-find-line-2 : tie.Need-slice-aggregate-find-line-2 Inv-loop μ-loop
+slice-aggregate-find-line-2 c = search needs
 
-slice-aggregate-score-line : tie.Need-slice-aggregate-score-line Inv-loop μ-loop
-slice-aggregate-score-line c = search needs
+find-line-requires : tie.Need-find-line-requires Inv-loop μ-loop
+find-line-requires c κs =
+    let i = c .before .before in
+    let b = i .before .loop .inv in
+    (i .before .before .before .before .pre .0, i .loop-test .taken, b .before, b .members-size)
 
-slice-aggregate-score-line-2 : tie.Need-slice-aggregate-score-line-2 Inv-loop μ-loop
-slice-aggregate-score-line-2 c = search needs
+slice-aggregate-put-line : tie.Need-slice-aggregate-put-line Inv-loop μ-loop
+slice-aggregate-put-line c = search needs
 
-score-line-requires : tie.Need-score-line-requires Inv-loop μ-loop
-score-line-requires c κs =
+put-line-requires : tie.Need-put-line-requires Inv-loop μ-loop
+put-line-requires c κs =
     let f = c .before .before .before .before in
-    let l = f .before .before in
-    sizes-here (l .before .before .before .before .pre .0) (l .before .loop .inv) (f .fill-line .ensures) (l .loop-test .taken)
+    let i = f .before .before .before in
+    scored-places (i .before .before .before .before .pre .0) (i .before .loop .inv) (i .loop-test .taken) (f .find-line .ensures)
 
 add-first : tie.Need-add-first Inv-loop μ-loop
 add-first c = search needs
@@ -42,16 +46,16 @@ loop-less c = search needs
 
 loop-again : tie.Need-loop-again Inv-loop μ-loop
 loop-again c =
-    let s = c .before .before .before in
-    let f = s .before .before .before .before .before in
-    let l = f .before .before in
-    scores-more (l .before .before .before .before .pre .0) (l .before .loop .inv) (f .fill-line .ensures) (s .score-line .ensures)
+    let p = c .before .before in
+    let f = p .before .before .before .before .before in
+    let i = f .before .before .before in
+    scored-more (i .before .before .before .before .pre .0) (i .before .loop .inv) (i .loop-test .taken) (f .find-line .ensures) (p .put-line .ensures)
 
 same-length : tie.Need-same-length Inv-loop μ-loop
-same-length c = search needs
+same-length c = c .before .loop .inv .found .size ∙ sym (c .before .before .before .before .pre .1)
 
 returns : tie.Need-returns Inv-loop μ-loop
-returns c = scores-all (c .before .loop .inv) (c .loop-test .left)
+returns c = scored-all (c .before .loop .inv) (c .loop-test .left)
 
 pub fill-scores-spec : {M : Type 1} → statement M
 fill-scores-spec =
@@ -60,11 +64,11 @@ fill-scores-spec =
     Inv-loop
     μ-loop
     loop-holds
-    slice-aggregate-fill-line
-    fill-line-requires
-    slice-aggregate-score-line
-    slice-aggregate-score-line-2
-    score-line-requires
+    slice-aggregate-find-line
+    slice-aggregate-find-line-2
+    find-line-requires
+    slice-aggregate-put-line
+    put-line-requires
     add-first
     loop-less
     loop-again
