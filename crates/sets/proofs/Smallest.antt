@@ -1,14 +1,16 @@
--- Laws of the smallest member of a set below w: it is a member and no other is smaller; it is the number of trailing zeros.
-use mathlib.Core.Path.{_≡_, refl, sym, _∙_}
-use Prim.Native.Nat.{ℕ, zero, suc, _/_, _%_, _^_, _≤_, _<_}
-use native.Mathlib.Nat.{le-of-suc-le-suc, not-suc-le-zero, mod-lt, zero-lt-suc}
+-- Laws of the smallest member of a set below w: it is a member and no other is smaller; it is the number of trailing zeros;
+-- s & (s - 1) is s without it.
+use mathlib.Core.Path.{_≡_, refl, sym, ap, _∙_}
+use Prim.Native.Nat.{ℕ, zero, suc, _-_, _/_, _%_, _^_, _≤_, _<_}
+use native.Mathlib.Nat.{le-of-suc-le-suc, not-suc-le-zero, mod-lt, zero-lt-suc, pow-suc}
 use native.Mathlib.Decide.{ℕ-discrete}
 use native.Mathlib.Omega.{arith}
+use lib.Bits.{bitAnd, and-step, and-self}
 use lib.Count.{under, trailingZeros, trailing-le, trailing-of-zero}
 use borrow.Author.Tests.{ne-eqb}
-use Rattle.sets.specs.Sets.{bit, In, smallest}
+use Rattle.sets.specs.Sets.{bit, In, intersection, difference, only, smallest}
 use Rattle.sets.proofs.Bits.{bit-zero, bit-suc}
-use Rattle.sets.proofs.Sets.{has-test, some, in-lt}
+use Rattle.sets.proofs.Sets.{has-test, some, in-intersection, of-intersection-right, of-only, in-lt, ext}
 
 -- the smallest member of a set that has badge 0, and of one that does not
 smallest-yes : (w s : ℕ) → In s 0 → smallest (suc w) s ≡ 0
@@ -62,3 +64,29 @@ smallest-member w s h f =
     let m = some s f in
     let l : smallest w s < w = omega (arith, smallest-first w s (m .0) (m .1) (in-lt w s (m .0) h (m .1)), in-lt w s (m .0) h (m .1)) in
     (smallest-in w s l, l)
+
+-- removing a member takes away its power of two
+difference-only : (s u : ℕ) → In s u → difference s (only u) ≡ s - 2 ^ u
+unfolding difference intersection only
+difference-only s u i =
+    let e : intersection s (only u) ≡ only u = ext _ _ (of-intersection-right s (only u)) (λ v j. in-intersection s (only u) v (let f : v ≡ u = of-only u v j in rw f i) j) in
+    ap (λ (x : ℕ). s - x) e
+
+-- s & (s - 1) takes away that of the smallest member
+and-pred : (w s : ℕ) → smallest w s < w → bitAnd s (s - 1) ≡ s - 2 ^ smallest w s
+and-pred zero s h = absurd (not-suc-le-zero h)
+and-pred (suc w) s h = go (and-pred w (s / 2)) (ℕ-discrete (bit s 0) 1)
+  where
+    go : (smallest w (s / 2) < w → bitAnd (s / 2) (s / 2 - 1) ≡ s / 2 - 2 ^ smallest w (s / 2)) → Dec (bit s 0 ≡ 1) → bitAnd s (s - 1) ≡ s - 2 ^ smallest (suc w) s
+    go ih (yes i) =
+        let e : (s - 1) / 2 ≡ s / 2 = omega (arith, bit-zero s) in
+        rw (smallest-yes w s i, and-step s (s - 1), e, and-self (s / 2)) (omega (arith, bit-zero s))
+    go ih (no f) =
+        let z : s % 2 ≡ 0 = omega (arith, bit-zero s, f) in
+        let e : (s - 1) / 2 ≡ s / 2 - 1 = omega arith in
+        let k : smallest w (s / 2) < w = omega (arith, smallest-no w s f) in
+        rw (smallest-no w s f, and-step s (s - 1), e, ih k, pow-suc) (omega arith)
+
+-- so s & (s - 1) is s without its smallest member
+pub without-smallest : (w s : ℕ) → s < 2 ^ w → (s ≡ 0 → ⊥) → bitAnd s (s - 1) ≡ difference s (only (smallest w s))
+without-smallest w s h f = let m = smallest-member w s h f in and-pred w s (m .1) ∙ sym (difference-only s _ (m .0))

@@ -117,4 +117,16 @@ impl BadgeSet {
     {
         u64::trailing_zeros(self.bits) as usize
     }
+
+    // The set without its smallest badge; the empty set stays empty.
+    pub fn rest(self) -> BadgeSet
+        ensures { λ r. ⌜ members r ≡ difference (members self) (only (smallest capacity (members self))) ⌝ }
+    {
+        if self.bits == 0 {
+            return self;
+        }
+        BadgeSet {
+            bits: self.bits & (self.bits - 1),
+        }
+    }
 }
