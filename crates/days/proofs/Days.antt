@@ -8,8 +8,8 @@ use Prim.Native.Nat.{ℕ, zero, suc, _+_, _*_, _/_, _%_, _≤_, _<_}
 use native.Mathlib.Nat.{eq-or-lt-of-le, not-suc-le-zero, suc-mul, zero-mul, mul-le-mul-right, mod-lt, div-add-mod', div-lt-iff-lt-mul}
 use native.Mathlib.Omega.{arith}
 use lib.Arith.{digits-lt}
-use lib.ListN.{length, getD, take, replicate, length-append, List·getD-append, length-replicate, getD-replicate}
-use lib.Seq.{getD-append-add, getD-take, ext-getD}
+use lib.ListN.{length, getD, take, drop, replicate, length-append, List·getD-append, length-replicate, getD-replicate}
+use lib.Seq.{getD-append-add, getD-take, getD-drop, ext-getD}
 use Rattle.sets.specs.Sets.{In, setOf}
 use Rattle.sets.proofs.Bools.{clash, same-test}
 use Rattle.sets.proofs.Tables.{tabulate-length, tabulate-at}
@@ -38,6 +38,11 @@ neighbours-append n T xs ys t u e h k = List·getD-append xs ys 0 (t * n + u) (o
 pub neighbours-take : (n T : ℕ) (ws : List ℕ) (t u : ℕ) → t < T → u < n → neighbours n (take (T * n) ws) t u ≡ neighbours n ws t u
 unfolding neighbours
 neighbours-take n T ws t u h k = getD-take (T * n) ws (t * n + u) 0 (digits-lt h k)
+
+-- the words from a tick's first on have the neighbours in this tick
+pub neighbours-part : (n : ℕ) (ws : List ℕ) (t w u : ℕ) → u < w → getD (take w (drop (t * n) ws)) u 0 ≡ neighbours n ws t u
+unfolding neighbours
+neighbours-part n ws t w u l = getD-take w _ u 0 l ∙ getD-drop (t * n) ws u 0
 
 -- the neighbours of u in a tick that follows so many others
 last-tick : (n T : ℕ) (xs : List ℕ) (r : ℕ → ℕ → Bool) (u : ℕ) → length xs ≡ T * n → u < n → neighbours n (xs ++ tickWords n r) T u ≡ setOf n (r u)

@@ -15,32 +15,30 @@ pub enum Checked {
     Refused(Refusal),
 }
 
-// Whether the words are a day: the search walks the set bits tick by tick, badge by badge, and stops at the first pair that breaks it,
-// a bit that is the badge's own, is n or more, or has no mirror.
+// Whether the words are a day: the search goes tick by tick and badge by badge, and stops at the first pair that breaks it. A row's own
+// bit and its bits from n up are tested at once, before its set bits are walked for one that has no mirror.
 fn is_day(words: &[u64], n: usize, ticks: usize) -> bool
     requires { ⌜ (n ≤ maxBadges) × (wordsFor n ticks ≤ length (now words)) ⌝ }
     ensures { λ r. ⌜ r ≡ isDay n ticks (now (words .entry)) ⌝ }
 {
     let mut good = true;
+    let badges = BadgeSet::full(n);
     'scan: for t in 0..ticks {
         let base = t * n;
+        let tick = &words[base..base + n];
         for u in 0..n {
-            let mut unseen = BadgeSet::from_word(words[base + u]);
+            let mut unseen = BadgeSet::from_word(tick[u]);
+            if !unseen.is_subset(badges.without(u)) {
+                good = false;
+                break 'scan;
+            }
             while !unseen.is_empty() {
                 let v = unseen.smallest();
-                if n <= v {
+                if !BadgeSet::from_word(tick[v]).has(u) {
                     good = false;
                     break 'scan;
                 }
-                if v == u {
-                    good = false;
-                    break 'scan;
-                }
-                if !BadgeSet::from_word(words[base + v]).has(u) {
-                    good = false;
-                    break 'scan;
-                }
-                unseen = unseen.without(v);
+                unseen = unseen.rest();
             }
         }
     }

@@ -9,13 +9,13 @@ use native.Mathlib.Decide.{decLt, decLe}
 use native.Mathlib.Omega.{arith}
 use lib.Bits.{and-zero-r}
 use lib.ListN.{getD, take, drop, length-take, List·getD-eq-default}
-use lib.Seq.{getD-take, getD-drop}
 use Rattle.sets.specs.Sets.{In, full, intersection}
 use Rattle.sets.specs.Members.{capacity}
 use Rattle.sets.specs.Tables.{tabulate}
 use Rattle.sets.proofs.Sets.{in-intersection, of-intersection-left, of-intersection-right, in-lt, in-full, of-full, ext}
 use Rattle.sets.proofs.Tables.{tabulate-same, piecewise-in, piecewise-out}
 use Rattle.days.specs.Days.{neighbours, IsDay}
+use Rattle.days.proofs.Days.{neighbours-part}
 use Rattle.spans.specs.Spans.{spanNeighbours, spanRows}
 use Rattle.spans.proofs.SpanRows.{in-span, of-span, span-row}
 use Rattle.groups.specs.Steps.{tickOf, tickRows, narrowed}
@@ -32,8 +32,8 @@ rows-are n ws first last f h g =
 
 -- the words of a tick: the neighbours of each badge below n, and nothing from n up
 tick-at : (n : ℕ) (ws : List ℕ) (t u : ℕ) → u < n → getD (tickOf n ws t) u 0 ≡ neighbours n ws t u
-unfolding tickOf neighbours
-tick-at n ws t u l = getD-take n _ u 0 l ∙ getD-drop (t * n) ws u 0
+unfolding tickOf
+tick-at n ws t u l = neighbours-part n ws t n u l
 
 tick-past : (n : ℕ) (ws : List ℕ) (t u : ℕ) → n ≤ u → getD (tickOf n ws t) u 0 ≡ 0
 unfolding tickOf
