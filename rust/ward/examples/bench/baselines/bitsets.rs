@@ -1,21 +1,33 @@
-//! A plain version with bitsets: for each first tick the rows of all its spans are narrowed tick by tick; then the last tick walks downward, and each
-//! span is peeled above the orders of the two that are one tick longer.
+//! A plain version with bitsets: for each first tick the rows of all its spans are narrowed tick by tick, until no contact is left; then the last
+//! tick walks downward, and each span is peeled above the orders of the two that are one tick longer.
 
 use super::{encode, is_day, Group};
 
-/// Drops the members with fewer than k neighbours among them, until none is left to drop.
-fn core(rows: &[u64; 64], mut set: u64, k: u32) -> u64 {
+/// Drops the members with fewer than k neighbours among them until none is left to drop: who is left, and the fewest neighbours that one of them has
+/// there. None once k or fewer are left: a core of order k has more members than that.
+fn core(rows: &[u64; 64], mut set: u64, k: u32) -> Option<(u64, u32)> {
+    let mut size = set.count_ones();
+    if size <= k {
+        return None;
+    }
     loop {
-        let (mut rest, before) = (set, set);
+        let (before, mut rest, mut least) = (set, set, 64);
         while rest != 0 {
             let u = rest.trailing_zeros() as usize;
             rest &= rest - 1;
-            if (rows[u] & set).count_ones() < k {
+            let degree = (rows[u] & set).count_ones();
+            if degree < k {
                 set &= !(1 << u);
+                size -= 1;
+                if size <= k {
+                    return None;
+                }
+            } else {
+                least = least.min(degree);
             }
         }
         if set == before {
-            return set;
+            return Some((set, least));
         }
     }
 }
@@ -24,41 +36,35 @@ pub fn report(words: &[u64], n: usize, ticks: usize, out: &mut [u8]) -> Option<u
     if !is_day(words, n, ticks) {
         return None;
     }
-    let all = if n == 64 { !0 } else { (1 << n) - 1 };
     let mut groups: Vec<Group> = Vec::new();
     let mut orders = [0u32; 97];
-    let mut table = [[0u64; 64]; 96];
+    // of the spans from one first tick, by last tick: their rows, and the badges whose row is not empty
+    let (mut table, mut joined) = ([[0u64; 64]; 96], [0u64; 96]);
     for first in 0..ticks {
-        let mut rows = [!0u64; 64];
-        let mut reached = ticks;
-        for last in first..ticks {
+        let (mut rows, mut reached) = ([!0u64; 64], first);
+        for (last, tick) in words.chunks_exact(n).enumerate().take(ticks).skip(first) {
             let mut any = 0;
-            for u in 0..n {
-                rows[u] &= words[last * n + u];
-                any |= rows[u];
+            for (row, word) in rows.iter_mut().zip(tick) {
+                *row &= word;
+                any |= *row;
             }
-            table[last] = rows;
             if any == 0 {
-                reached = last;
                 break;
             }
+            (table[last], joined[last], reached) = (rows, any, last + 1);
         }
-        let from = groups.len();
         orders[reached..ticks].fill(0);
+        let from = groups.len();
         for last in (first..reached).rev() {
-            let mut k = orders[last].max(orders[last + 1]);
-            let (mut set, mut best) = (all, 0);
-            loop {
-                set = core(&table[last], set, k + 1);
-                if set == 0 {
-                    break;
-                }
-                k += 1;
-                best = set;
+            // orders[last] is still that of the span from the tick before first
+            let bound = orders[last].max(orders[last + 1]);
+            let (mut set, mut k) = (joined[last], bound);
+            while let Some(left) = core(&table[last], set, k + 1) {
+                (set, k) = left;
             }
             orders[last] = k;
-            if best != 0 {
-                groups.push((k as u8, first, last, best));
+            if k > bound {
+                groups.push((k as u8, first, last, set));
             }
         }
         groups[from..].reverse();
