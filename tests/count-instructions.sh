@@ -1,24 +1,51 @@
 #!/usr/bin/env bash
-# Counts the instructions of one report by each way to make it, on each day of the benchmark, in millions: figures that repeat.
-# Needs cargo, valgrind, and target/staticlib/libhost.a, which `rt staticlib host` writes.
+# Counts the instructions of one call on each day of the benchmark, in millions: figures that repeat. One table has the report, made by the engine and
+# by each baseline; the other has the engine's plan around badges 0 and 1 in 8 parts, and read and tidy of the day's log, '-' where a day has none,
+# having more than 8,000 runs. Each count is of one call in a new process; buffers are not cleared between calls, and no clearing is counted.
+# Needs cargo, valgrind, and target/staticlib/libhost.a, which `rt staticlib host` writes. Its arguments are the days, all five if there are none.
 set -euo pipefail
 cd "$(dirname "${BASH_SOURCE[0]}")/../rust/ward"
-cargo build --offline --release --example bench 2> /dev/null
-program=target/release/examples/bench
+[ $# -gt 0 ] || set -- sparse busy dense random persistent
+cargo build --quiet --offline --release --target-dir target --example bench
 scratch=$(mktemp -d)
 trap 'rm -rf "$scratch"' EXIT
-calls="engine lists algorithm2 bitsets"
 
-printf '%-12s' "report"
-printf '%12s' $calls
-printf '%12s\n' "engine/bits"
-for day in sparse busy dense random persistent; do
-    printf '%-12s' "$day"
-    for call in $calls; do
-        valgrind --tool=callgrind --callgrind-out-file="$scratch/out" --toggle-collect=counted "$program" "$day" "$call" > /dev/null 2>&1
-        count=$(awk '/^(summary|totals):/ { print $2 }' "$scratch/out" | tail -1)
-        eval "$call=$count"
-        printf '%12s' "$(awk -v c="$count" 'BEGIN { printf "%.2f", c / 1e6 }')"
+# The instructions of a call on a day; 0 where it is not made.
+count() {
+    if ! valgrind --tool=callgrind --callgrind-out-file="$scratch/out" --toggle-collect=counted target/release/examples/bench "$1" "$2" > "$scratch/said" 2>&1; then
+        cat "$scratch/said" >&2
+        exit 1
+    fi
+    awk '/^(summary|totals):/ { count = $2 } END { print count + 0 }' "$scratch/out"
+}
+
+# A count in millions, and a ratio.
+millions() { awk -v count="$1" 'BEGIN { printf "%12s", count == 0 ? "-" : sprintf("%.2f", count / 1e6) }'; }
+ratio() { awk -v a="$1" -v b="$2" 'BEGIN { printf "%.2f", a / b }'; }
+
+declare -A counts
+reports=(engine lists algorithm2 bitsets)
+printf '%-20s' "report, millions"
+printf '%12s' "${reports[@]}"
+printf '%16s%14s\n' "engine/bitsets" "lists/engine"
+for day in "$@"; do
+    printf '%-20s' "$day"
+    for call in "${reports[@]}"; do
+        counts[$call]=$(count "$day" "$call")
+        millions "${counts[$call]}"
     done
-    printf '%12s\n' "$(awk -v a="$engine" -v b="$bitsets" 'BEGIN { printf "%.2f", a / b }')"
+    printf '%16s%14s\n' "$(ratio "${counts[engine]}" "${counts[bitsets]}")" "$(ratio "${counts[lists]}" "${counts[engine]}")"
+done
+
+others=(plan read tidy)
+printf '\n%-20s' "others, millions"
+printf '%12s' "${others[@]}"
+printf '\n'
+for day in "$@"; do
+    printf '%-20s' "$day"
+    for call in "${others[@]}"; do
+        number=$(count "$day" "$call")
+        millions "$number"
+    done
+    printf '\n'
 done

@@ -1,8 +1,8 @@
-//! Compares the report, and the plan, with baselines in Rust, on days of 64 badges and 96 ticks from a fixed generator. One table: medians of
-//! wall time, and ratios, in one run. Every baseline does the checks 10, 8, 11 and 9 and the encoding, as the engine does, and its bytes are
-//! compared with the engine's first. Buffers are not cleared between calls.
+//! Compares the report with baselines in Rust, and measures the plan around badges 0 and 1 in 8 parts, and read and tidy of the day's log, on days of
+//! 64 badges and 96 ticks from a fixed generator. Medians of wall time, and ratios, in one run. Every baseline does the checks 10, 8, 11 and 9 and
+//! the encoding, as the engine does, and its bytes are compared with the engine's first. Buffers are not cleared between calls.
 //!
-//!     cargo run --offline --release --example bench            the table
+//!     cargo run --offline --release --example bench            the tables
 //!     cargo run --offline --release --example bench -- W C     one call, for an instruction count: workload W, call C
 
 mod baselines;
@@ -12,17 +12,49 @@ mod random;
 
 use std::time::Instant;
 
-pub type Report = fn(&[u64], usize, usize, &mut [u8]) -> Option<usize>;
+type Report = fn(&[u64], usize, usize, &mut [u8]) -> Option<usize>;
 
 fn engine(words: &[u64], n: usize, ticks: usize, out: &mut [u8]) -> Option<usize> {
     ward::report(words, n, ticks, out).ok()
 }
 
-const CALLS: [(&str, Report); 4] =
+const REPORTS: [(&str, Report); 4] =
     [("engine", engine), ("lists", baselines::lists::report), ("algorithm2", baselines::algorithm2::report), ("bitsets", baselines::bitsets::report)];
+const OTHERS: [&str; 3] = ["plan", "read", "tidy"];
+
+/// A call on one day with buffers of its own, to be made so often as one likes: the number of bytes, or of contact records, that it gives.
+type Call<'a> = Box<dyn FnMut() -> usize + 'a>;
+
+/// The call of a name; none for read and tidy where the day has no log, having more than 8,000 runs.
+fn ready<'a>(name: &str, words: &'a [u64]) -> Option<Call<'a>> {
+    if let Some(&(_, report)) = REPORTS.iter().find(|r| r.0 == name) {
+        let mut out = vec![0; ward::REPORT_BYTES];
+        return Some(Box::new(move || report(words, 64, 96, &mut out).expect("a report")));
+    }
+    let mut out = vec![0; ward::LOG_BYTES];
+    if name == "plan" {
+        return Some(Box::new(move || ward::plan(words, 64, 96, 0b11, 8, &mut out).expect("a plan")));
+    }
+    let mut log = vec![0; ward::LOG_BYTES];
+    let size = ward::write(words, 64, 96, &mut log).ok()?;
+    log.truncate(size);
+    let mut work = vec![0; ward::WORDS];
+    match name {
+        "read" => Some(Box::new(move || ward::read(&log, &mut work).expect("a log").contacts)),
+        "tidy" => Some(Box::new(move || ward::tidy(&log, &mut work, &mut out).expect("a log"))),
+        _ => panic!("no call {name}"),
+    }
+}
+
+/// One call, under a name that an instruction count can start and stop at.
+#[no_mangle]
+#[inline(never)]
+fn counted(call: &mut dyn FnMut() -> usize) -> usize {
+    call()
+}
 
 /// The median time of a call, in microseconds.
-fn median(rounds: usize, mut call: impl FnMut()) -> f64 {
+fn median(rounds: usize, mut call: Call) -> f64 {
     let mut times: Vec<f64> = (0..rounds)
         .map(|_| {
             let start = Instant::now();
@@ -34,63 +66,58 @@ fn median(rounds: usize, mut call: impl FnMut()) -> f64 {
     times[rounds / 2]
 }
 
-fn table() {
-    println!("{:<12} {:>7} {:>12} {:>12} {:>12} {:>12} {:>9} {:>9}", "report", "groups", "engine µs", "lists µs", "algorithm2", "bitsets µs", "lists/e", "bitsets/e");
-    for (name, words) in days::all() {
-        let (mut expected, mut out) = ([0u8; ward::REPORT_BYTES], [0u8; ward::REPORT_BYTES]);
-        let size = engine(&words, 64, 96, &mut expected).expect("a day");
-        let mut times = Vec::new();
-        for (call, report) in CALLS {
-            assert_eq!(report(&words, 64, 96, &mut out), Some(size), "{name}: {call}");
-            assert!(out[..size] == expected[..size], "{name}: {call}");
-            let rounds = if call == "lists" { 3 } else { 15 };
-            times.push(median(rounds, || {
-                report(&words, 64, 96, &mut out);
-            }));
-        }
-        let groups = (size - 10) / 13;
-        let [engine, lists, algorithm2, bitsets] = times[..] else { unreachable!() };
-        println!("{name:<12} {groups:>7} {engine:>12.0} {lists:>12.0} {algorithm2:>12.0} {bitsets:>12.0} {:>9.1} {:>9.2}", lists / engine, bitsets / engine);
+/// The number of groups, once every way to make the report has given the same bytes.
+fn groups(day: &str, words: &[u64]) -> usize {
+    let mut expected = vec![0; ward::REPORT_BYTES];
+    let size = engine(words, 64, 96, &mut expected).expect("a day");
+    for (name, report) in REPORTS {
+        let mut out = vec![0; ward::REPORT_BYTES];
+        assert_eq!(report(words, 64, 96, &mut out), Some(size), "{day}: {name}");
+        assert!(out == expected, "{day}: {name}");
+    }
+    (size - 10) / 13
+}
+
+fn tables() {
+    print!("{:<12}{:>8}", "report, µs", "groups");
+    REPORTS.iter().for_each(|r| print!("{:>12}", r.0));
+    println!("{:>16}{:>14}", "engine/bitsets", "lists/engine");
+    for (day, words) in days::all() {
+        print!("{day:<12}{:>8}", groups(day, &words));
+        let times = REPORTS.map(|(name, _)| median(if name == "lists" { 5 } else { 15 }, ready(name, &words).expect("a report")));
+        times.iter().for_each(|time| print!("{time:>12.0}"));
+        let [engine, lists, _, bitsets] = times;
+        println!("{:>16.2}{:>14.2}", engine / bitsets, lists / engine);
     }
     println!();
-    println!("{:<12} {:>12} {:>12} {:>12}", "other calls", "plan µs", "read µs", "tidy µs");
-    for (name, words) in days::all() {
-        let mut plan = [0u8; ward::PLAN_BYTES];
-        let planning = median(15, || {
-            ward::plan(&words, 64, 96, 0b11, 8, &mut plan).expect("a plan");
-        });
-        let mut log = [0u8; ward::LOG_BYTES];
-        let (mut work, mut out) = ([0u64; ward::WORDS], [0u8; ward::LOG_BYTES]);
-        // a day of more than 8,000 runs has no log
-        let (reading, tidying) = match ward::write(&words, 64, 96, &mut log) {
-            Err(_) => ("-".to_string(), "-".to_string()),
-            Ok(size) => (
-                format!("{:.0}", median(15, || { ward::read(&log[..size], &mut work).expect("a log"); })),
-                format!("{:.0}", median(15, || { ward::tidy(&log[..size], &mut work, &mut out).expect("a log"); })),
-            ),
-        };
-        println!("{name:<12} {planning:>12.0} {reading:>12} {tidying:>12}");
+    print!("{:<20}", "other calls, µs");
+    OTHERS.iter().for_each(|name| print!("{name:>12}"));
+    println!();
+    for (day, words) in days::all() {
+        print!("{day:<20}");
+        for name in OTHERS {
+            match ready(name, &words) {
+                Some(call) => print!("{:>12.0}", median(15, call)),
+                None => print!("{:>12}", "-"),
+            }
+        }
+        println!();
     }
 }
 
-fn once(workload: &str, call: &str) {
-    let words = days::all().into_iter().find(|day| day.0 == workload).expect("a workload").1;
-    let report = CALLS.iter().find(|c| c.0 == call).expect("a call").1;
-    let mut out = [0u8; ward::REPORT_BYTES];
-    println!("{:?}", counted(report, &words, &mut out));
-}
-
-/// One call, under a name that an instruction count can start and stop at.
-#[no_mangle]
-#[inline(never)]
-fn counted(report: Report, words: &[u64], out: &mut [u8]) -> Option<usize> {
-    report(words, 64, 96, out)
+fn once(day: &str, name: &str) {
+    let words = days::all().into_iter().find(|d| d.0 == day).expect("a workload").1;
+    let call = ready(name, &words);
+    match call {
+        Some(mut call) => println!("{}", counted(&mut call)),
+        None => println!("the day has no log"),
+    }
 }
 
 fn main() {
-    let words: Vec<String> = std::env::args().skip(1).collect();
-    match &words[..] {
-        [workload, call] => once(workload, call),
-        _ => table(),
+    let arguments: Vec<String> = std::env::args().skip(1).collect();
+    match &arguments[..] {
+        [day, name] => once(day, name),
+        _ => tables(),
     }
 }
