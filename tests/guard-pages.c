@@ -1,6 +1,7 @@
 /* Random calls through the C interface, with every lent buffer between two pages that cannot be read or written, flush against one of them, and
  * with what a call may only read on pages that cannot be written: a call that reaches outside what was lent, or writes where it must not, ends the
- * program. Its argument is the number of calls. Prints how many of each were refused and how many succeeded. */
+ * program. So does an answer that is not of the form that the header gives. Its argument is the number of calls. Prints how many of each were
+ * refused and how many succeeded. */
 #define _DEFAULT_SOURCE
 #include <stdio.h>
 #include <stdlib.h>
@@ -84,6 +85,14 @@ static size_t odd_size(size_t usual, size_t most) {
     return below(20) == 0 ? odd[below(6)] : 1 + below(usual < most ? usual : most);
 }
 
+/* Whether the five numbers, all ones before the call, are an answer: a refusal by its number and offset, or a success by its values, and else 0. */
+static int is_answer(size_t call, const uint64_t answer[5]) {
+    uint64_t number = answer[WARD_NUMBER], values = answer[WARD_BADGES] | answer[WARD_TICKS];
+    if (number != WARD_SUCCESS)
+        return number <= WARD_TIDY_TOO_MANY && (number <= WARD_TRAILING_BYTES || answer[WARD_OFFSET] == 0) && (values | answer[WARD_COUNT]) == 0;
+    return answer[WARD_OFFSET] == 0 && answer[WARD_COUNT] <= WARD_REPORT_BYTES && (call == 0 ? values < 128 : values == 0);
+}
+
 int main(int argc, char **argv) {
     size_t calls = argc > 1 ? strtoul(argv[1], NULL, 10) : 1000;
     uint8_t *in = region(), *words_at = region(), *out_at = region(), *answer_at = region();
@@ -96,6 +105,7 @@ int main(int argc, char **argv) {
         size_t words_len = large ? ROOM / 8 : below(80), out_len = below(4) == 0 ? below(40) : large ? ROOM : below(600);
         uint64_t *answer = flush(answer_at, 40), *words = flush(words_at, words_len * 8);
         uint8_t *out = flush(out_at, out_len);
+        memset(answer, 255, 40);
         if (call < 2) {
             size_t size = fill_log(log, 1 + n % 66, 1 + ticks % 98);
             uint8_t *bytes = flush(in, size);
@@ -119,6 +129,10 @@ int main(int argc, char **argv) {
             else
                 ward_plan(words, words_len, n, ticks, next() & next() & next() & (((uint64_t)2 << n % 64) - 1), below(9), out, out_len, answer);
             writable(words_at, 1);
+        }
+        if (!is_answer(call, answer)) {
+            printf("call %zu: not an answer\n", i);
+            return 1;
         }
         if (answer[WARD_NUMBER] == WARD_SUCCESS)
             succeeded[call]++;

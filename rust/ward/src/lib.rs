@@ -72,6 +72,14 @@ extern "C" {
 // A slice's pointer is aligned and not null, even where it is empty, and slices borrowed mutably overlap no other: what the calls ask for.
 
 /// Reads a log into day words: word t×n+u has bit v set exactly when u and v are in contact in tick t. A refused call changes no word.
+///
+/// ```
+/// let mut words = [0u64; ward::WORDS];
+/// let day = ward::read(b"BH\x03\x01CT\x02\x00\x00\x00ED\x01\x00\x00\x00", &mut words)?;
+/// assert_eq!(day, ward::Day { badges: 3, ticks: 1, contacts: 1 });
+/// assert_eq!(words[..3], [0b100, 0, 0b001]); // badges 0 and 2 are in contact
+/// # Ok::<(), ward::Refused>(())
+/// ```
 pub fn read(log: &[u8], words: &mut [u64]) -> Result<Day, Refused> {
     let mut answer = [0; 5];
     unsafe { ward_read(log.as_ptr(), log.len(), words.as_mut_ptr(), words.len(), &mut answer) };
@@ -95,6 +103,14 @@ pub fn tidy(log: &[u8], work: &mut [u64], out: &mut [u8]) -> Result<usize, Refus
 }
 
 /// Writes day words as their tidy log, and gives the number of bytes.
+///
+/// ```
+/// let words = [0b10, 0b01]; // two badges in contact, in one tick
+/// let mut log = [0u8; ward::LOG_BYTES];
+/// let size = ward::write(&words, 2, 1, &mut log)?;
+/// assert_eq!(&log[..size], b"BH\x02\x01CT\x00\x01\x00\x00ED\x01\x00\x00\x00");
+/// # Ok::<(), ward::Refused>(())
+/// ```
 pub fn write(words: &[u64], badges: usize, ticks: usize, out: &mut [u8]) -> Result<usize, Refused> {
     let mut answer = [0; 5];
     unsafe { ward_write(words.as_ptr(), words.len(), badges, ticks, out.as_mut_ptr(), out.len(), &mut answer) };
@@ -116,6 +132,14 @@ pub fn core_numbers(words: &[u64], badges: usize, ticks: usize, first: usize, la
 }
 
 /// Puts the report of a day's groups into a buffer, and gives the number of bytes.
+///
+/// ```
+/// let words = [0b10, 0b01];
+/// let mut report = [0u8; ward::REPORT_BYTES];
+/// let size = ward::report(&words, 2, 1, &mut report)?;
+/// assert_eq!(&report[..size], b"RH\x02\x01GR\x01\x00\x00\x03\x00\x00\x00\x00\x00\x00\x00ED\x01\x00\x00\x00");
+/// # Ok::<(), ward::Refused>(())
+/// ```
 pub fn report(words: &[u64], badges: usize, ticks: usize, out: &mut [u8]) -> Result<usize, Refused> {
     let mut answer = [0; 5];
     unsafe { ward_report(words.as_ptr(), words.len(), badges, ticks, out.as_mut_ptr(), out.len(), &mut answer) };
@@ -127,9 +151,15 @@ pub fn report(words: &[u64], badges: usize, ticks: usize, out: &mut [u8]) -> Res
 /// ```
 /// let words = [0b10, 0b01];
 /// let mut plan = [0u8; ward::PLAN_BYTES];
+/// let size = ward::plan(&words, 2, 1, 0b01, 1, &mut plan)?;
+/// assert_eq!(&plan[..13], b"PH\x02\x01\x01\x01\x00\x00\x00\x00\x00\x00\x00"); // one part, around badge 0
+/// assert_eq!(&plan[13..26], b"PT\x01\x00\x00\x03\x00\x00\x00\x00\x00\x00\x00"); // score 1, tick 0 to 0, both badges
+/// assert_eq!(size, 32);
+///
 /// let refused = ward::plan(&words, 2, 1, 0b100, 1, &mut plan).unwrap_err();
 /// assert_eq!(refused.refusal, ward::Refusal::ForeignQuery);
 /// assert_eq!(refused.to_string(), "refused 13 at 0: the query has a badge that the day does not have");
+/// # Ok::<(), ward::Refused>(())
 /// ```
 pub fn plan(words: &[u64], badges: usize, ticks: usize, query: u64, parts: usize, out: &mut [u8]) -> Result<usize, Refused> {
     let mut answer = [0; 5];
@@ -138,10 +168,11 @@ pub fn plan(words: &[u64], badges: usize, ticks: usize, query: u64, parts: usize
 }
 
 fn refused(answer: Answer) -> Result<(), Refused> {
-    match Refusal::from_number(answer[0]) {
-        None => Ok(()),
-        Some(refusal) => Err(Refused { refusal, offset: answer[1] as usize }),
+    if answer[0] == 0 {
+        return Ok(());
     }
+    let refusal = Refusal::from_number(answer[0]).expect("a call answers by 0 to 16");
+    Err(Refused { refusal, offset: answer[1] as usize })
 }
 
 fn written(answer: Answer) -> Result<usize, Refused> {

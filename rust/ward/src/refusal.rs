@@ -4,6 +4,14 @@ use std::error::Error;
 use std::fmt;
 
 /// A refusal, in the order of its numbers, 1 to 16.
+///
+/// ```
+/// use ward::Refusal;
+/// assert_eq!(Refusal::NotADay.number(), 11);
+/// assert_eq!(Refusal::from_number(11), Some(Refusal::NotADay));
+/// assert_eq!((1..=16).map(|k| Refusal::from_number(k).unwrap().number() as u64).collect::<Vec<_>>(), (1..=16).collect::<Vec<_>>());
+/// assert_eq!((Refusal::from_number(0), Refusal::from_number(17)), (None, None));
+/// ```
 #[derive(Clone, Copy, Debug, PartialEq, Eq)]
 pub enum Refusal {
     CutShort = 1,
@@ -46,10 +54,10 @@ const ALL: [(Refusal, &str); 16] = [
 ];
 
 impl Refusal {
-    /// The refusal of a number, none for 0, which is success.
+    /// The refusal of a number; none for 0, which is success, and for a number above 16.
     pub fn from_number(number: u64) -> Option<Refusal> {
-        let place = number.checked_sub(1)?;
-        Some(ALL[place as usize].0)
+        let place = usize::try_from(number.checked_sub(1)?).ok()?;
+        ALL.get(place).map(|refusal| refusal.0)
     }
 
     /// Its number in the paper.
@@ -60,6 +68,12 @@ impl Refusal {
 
 /// What a refused call answers: the refusal, and a byte offset. The offset is the start of the refused record for 1 to 6, of the first extra
 /// byte for 7, and 0 otherwise.
+///
+/// ```
+/// let refused = ward::read(b"BH\x02\x01CT", &mut [0; 2]).unwrap_err();
+/// assert_eq!((refused.refusal, refused.refusal.number(), refused.offset), (ward::Refusal::CutShort, 1, 4));
+/// assert_eq!(refused.to_string(), "refused 1 at 4: the bytes end inside a record, or where one must start");
+/// ```
 #[derive(Clone, Copy, Debug, PartialEq, Eq)]
 pub struct Refused {
     pub refusal: Refusal,

@@ -154,109 +154,111 @@ pub fn check(words: &[u64], n: usize, ticks: usize) -> Result<Day, Refusal> {
     Ok(day)
 }
 
-/// The pairs in contact in every tick of a span.
-fn throughout(day: &Day, first: usize, last: usize) -> Vec<Vec<bool>> {
-    let together = |u, v| (first..=last).all(|t| day.met(t, u, v));
-    (0..day.n).map(|u| (0..day.n).map(|v| together(u, v)).collect()).collect()
-}
-
-/// The core of an order: badges with fewer partners than k are dropped until none is left to drop.
-fn core(pairs: &[Vec<bool>], k: usize) -> Vec<bool> {
+/// The core of an order: badges with fewer partners than k are dropped until none is left to drop. None where nobody is left.
+fn core(pairs: &[Vec<bool>], k: usize) -> Option<u64> {
     let n = pairs.len();
     let mut members = vec![true; n];
-    loop {
-        let degree = |u: usize| (0..n).filter(|&v| members[v] && pairs[u][v]).count();
-        match (0..n).find(|&u| members[u] && degree(u) < k) {
-            Some(u) => members[u] = false,
-            None => return members,
+    let mut degree: Vec<usize> = pairs.iter().map(|row| row.iter().filter(|pair| **pair).count()).collect();
+    while let Some(u) = (0..n).find(|&u| members[u] && degree[u] < k) {
+        members[u] = false;
+        for v in (0..n).filter(|&v| pairs[u][v]) {
+            degree[v] -= 1;
         }
     }
-}
-
-fn set(members: &[bool]) -> u64 {
-    members.iter().enumerate().filter(|m| *m.1).map(|m| 1 << m.0).sum()
-}
-
-/// The largest order whose core is there and contains the query, with that core; 0 and all n badges if there is none.
-fn highest(pairs: &[Vec<bool>], query: u64) -> (usize, u64) {
-    let mut best = (0, set(&vec![true; pairs.len()]));
-    for k in 1..pairs.len() {
-        let members = set(&core(pairs, k));
-        if members == 0 {
-            break; // and so is the core of every larger order
-        }
-        if query & !members == 0 {
-            best = (k, members);
-        }
-    }
-    best
-}
-
-pub fn core_numbers(day: &Day, first: usize, last: usize) -> Vec<u8> {
-    let pairs = throughout(day, first, last);
-    let mut numbers = vec![0; day.n];
-    for k in 1..day.n {
-        for (u, member) in core(&pairs, k).into_iter().enumerate() {
-            if member {
-                numbers[u] = k as u8;
-            }
-        }
-    }
-    numbers
+    let set = (0..n).filter(|&u| members[u]).map(|u| 1 << u).sum();
+    if set == 0 { None } else { Some(set) }
 }
 
 /// A record of a report or a plan: order or score, first tick, last tick, members.
 pub type Record = (usize, usize, usize, u64);
 
-/// The maximal cores, by first tick and then last tick.
-pub fn groups(day: &Day) -> Vec<Record> {
-    let mut tops = Vec::new();
-    for first in 0..day.ticks {
-        for last in first..day.ticks {
-            let (order, members) = highest(&throughout(day, first, last), 0);
-            if order > 0 {
-                tops.push((order, first, last, members));
-            }
-        }
-    }
-    let larger = |a: &Record, b: &Record| a != b && a.0 >= b.0 && a.1 <= b.1 && a.2 >= b.2;
-    tops.iter().copied().filter(|b| !tops.iter().any(|a| larger(a, b))).collect()
-}
-
-/// The score of each run around a query, with its members.
-pub struct Scores {
+/// The cores of every span of a day.
+pub struct Cores {
+    n: usize,
     ticks: usize,
-    parts: Vec<(usize, u64)>,
+    /// For each first and last tick the cores of order 1, 2 and so on, as far as there are any.
+    of_span: Vec<Vec<u64>>,
 }
 
-impl Scores {
-    pub fn of(day: &Day, query: u64) -> Scores {
-        let mut parts = vec![(0, 0); day.ticks * day.ticks];
-        for first in 0..day.ticks {
-            for last in first..day.ticks {
-                parts[first * day.ticks + last] = highest(&throughout(day, first, last), query);
+impl Cores {
+    pub fn of(day: &Day) -> Cores {
+        let (n, ticks) = (day.n, day.ticks);
+        // how many ticks the pair stays in contact, from a tick on, without a break
+        let mut stay = vec![vec![vec![0; n]; n]; ticks + 1];
+        for t in (0..ticks).rev() {
+            for u in 0..n {
+                for v in 0..n {
+                    stay[t][u][v] = if day.met(t, u, v) { 1 + stay[t + 1][u][v] } else { 0 };
+                }
             }
         }
-        Scores { ticks: day.ticks, parts }
+        let mut of_span = vec![Vec::new(); ticks * ticks];
+        for first in 0..ticks {
+            for last in first..ticks {
+                let throughout = |row: &Vec<usize>| row.iter().map(|ticks| *ticks > last - first).collect();
+                let pairs: Vec<Vec<bool>> = stay[first].iter().map(throughout).collect();
+                of_span[first * ticks + last] = (1..).map_while(|k| core(&pairs, k)).collect();
+            }
+        }
+        Cores { n, ticks, of_span }
     }
 
-    pub fn of_run(&self, first: usize, last: usize) -> (usize, u64) {
-        self.parts[first * self.ticks + last]
+    fn on(&self, first: usize, last: usize) -> &[u64] {
+        &self.of_span[first * self.ticks + last]
     }
 
-    /// The greatest sum over the ways to cut all ticks into h runs.
-    pub fn greatest(&self, h: usize) -> usize {
+    /// The largest order whose core contains each badge.
+    pub fn numbers(&self, first: usize, last: usize) -> Vec<u8> {
+        (0..self.n).map(|u| self.highest(1 << u, first, last).0 as u8).collect()
+    }
+
+    /// The largest order whose core contains the query, with that core; 0 and all n badges if there is none.
+    pub fn highest(&self, query: u64, first: usize, last: usize) -> (usize, u64) {
+        let orders = self.on(first, last).iter().enumerate().filter(|core| query & !core.1 == 0);
+        orders.last().map_or((0, (0..self.n).map(|u| 1 << u).sum()), |(place, core)| (place + 1, *core))
+    }
+
+    /// The maximal cores, by first tick and then last tick.
+    pub fn groups(&self) -> Vec<Record> {
+        let mut all: Vec<Record> = Vec::new();
+        for first in 0..self.ticks {
+            for last in first..self.ticks {
+                // a core of a smaller order on the same span is not maximal
+                all.extend(self.on(first, last).iter().enumerate().last().map(|(place, core)| (place + 1, first, last, *core)));
+            }
+        }
+        let larger = |a: &Record, b: &Record| a != b && a.0 >= b.0 && a.1 <= b.1 && a.2 >= b.2;
+        all.iter().copied().filter(|b| !all.iter().any(|a| larger(a, b))).collect()
+    }
+
+    /// The greatest sum of scores around a query over the ways to cut all ticks into h runs.
+    pub fn greatest_sum(&self, query: u64, h: usize) -> usize {
         // best[t]: the greatest sum of the ticks before t, in so many runs as were added; none where they cannot be cut so
         let mut best: Vec<Option<usize>> = vec![None; self.ticks + 1];
         best[0] = Some(0);
+        let scores: Vec<Vec<usize>> = (0..self.ticks).map(|last| (0..=last).map(|first| self.highest(query, first, last).0).collect()).collect();
         for _ in 0..h {
             let mut next = vec![None; self.ticks + 1];
             for (end, sum) in next.iter_mut().enumerate().skip(1) {
-                *sum = (0..end).filter_map(|start| Some(best[start]? + self.of_run(start, end - 1).0)).max();
+                *sum = (0..end).filter_map(|start| Some(best[start]? + scores[end - 1][start])).max();
             }
             best = next;
         }
         best[self.ticks].expect("there are no more parts than ticks")
+    }
+
+    /// The same by trying every cutting: bit t of a number says whether a run ends with tick t. For days of few ticks.
+    pub fn greatest_sum_of_all(&self, query: u64, h: usize) -> usize {
+        let cuttings = (0..1u32 << (self.ticks - 1)).filter(|ends| ends.count_ones() as usize == h - 1);
+        let sum = |ends: u32| {
+            let (mut first, mut sum) = (0, 0);
+            for last in (0..self.ticks).filter(|&t| t + 1 == self.ticks || ends >> t & 1 == 1) {
+                sum += self.highest(query, first, last).0;
+                first = last + 1;
+            }
+            sum
+        };
+        cuttings.map(sum).max().expect("there are no more parts than ticks")
     }
 }
 
