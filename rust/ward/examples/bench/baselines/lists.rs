@@ -1,5 +1,5 @@
-//! Every span's core decomposition, with lists of neighbours and buckets by degree, and then the filter: a core is maximal if no containing span
-//! has an order as large.
+//! Every span's core decomposition, with lists of neighbours and badges kept in order of degree, and then the filter: a core is maximal if no
+//! containing span has an order as large.
 
 use super::{encode, is_day, members, Group};
 
@@ -7,41 +7,51 @@ use super::{encode, is_day, members, Group};
 pub fn neighbours(words: &[u64], n: usize, first: usize, last: usize) -> Vec<Vec<usize>> {
     (0..n)
         .map(|u| {
-            let row = (first..=last).fold(!0, |row, t| row & words[t * n + u]);
-            (0..n).filter(|v| row >> v & 1 == 1).collect()
+            let mut row = (first..=last).fold(!0, |row, t| row & words[t * n + u]);
+            let mut list = Vec::with_capacity(row.count_ones() as usize);
+            while row != 0 {
+                list.push(row.trailing_zeros() as usize);
+                row &= row - 1;
+            }
+            list
         })
         .collect()
 }
 
-/// The core number of each badge: badges are taken by degree, smallest first, and each lowers the degrees of its neighbours.
+/// The core number of each badge, by the algorithm of Batagelj and Zaveršnik: badges are taken by degree, smallest first, and each lowers the degrees
+/// of its neighbours that are larger than its own.
 pub fn core_numbers(neighbours: &[Vec<usize>]) -> Vec<usize> {
     let n = neighbours.len();
     let mut degree: Vec<usize> = neighbours.iter().map(Vec::len).collect();
-    let mut buckets: Vec<Vec<usize>> = vec![Vec::new(); n];
-    for (u, &d) in degree.iter().enumerate() {
-        buckets[d].push(u);
+    // the badges in order of degree, the place of each there, and where those of each degree start
+    let (mut order, mut place, mut start) = (vec![0; n], vec![0; n], vec![0; n + 1]);
+    for &d in &degree {
+        start[d + 1] += 1;
     }
-    let (mut numbers, mut taken, mut low, mut level) = (vec![0; n], vec![false; n], 0, 0);
-    while low < n {
-        let Some(u) = buckets[low].pop() else {
-            low += 1;
-            continue;
-        };
-        if taken[u] || degree[u] != low {
-            continue;
-        }
-        taken[u] = true;
-        level = level.max(low);
-        numbers[u] = level;
+    for d in 0..n {
+        start[d + 1] += start[d];
+    }
+    let mut free = start.clone();
+    for u in 0..n {
+        place[u] = free[degree[u]];
+        order[place[u]] = u;
+        free[degree[u]] += 1;
+    }
+    for i in 0..n {
+        let u = order[i];
         for &v in &neighbours[u] {
-            if !taken[v] {
+            if degree[v] > degree[u] {
+                // v moves to the front of its degree, and that front to the next smaller degree
+                let front = start[degree[v]];
+                let w = order[front];
+                order.swap(front, place[v]);
+                place.swap(v, w);
+                start[degree[v]] += 1;
                 degree[v] -= 1;
-                buckets[degree[v]].push(v);
-                low = low.min(degree[v]);
             }
         }
     }
-    numbers
+    degree
 }
 
 pub fn report(words: &[u64], n: usize, ticks: usize, out: &mut [u8]) -> Option<usize> {
