@@ -4,7 +4,6 @@ ghost use Prim.Native.Nat.{_≤_, _<_};
 ghost use lib.ListN.{length};
 use crate::bits::bit;
 use crate::bits::place;
-use crate::bits::with_bit;
 use crate::calls::Span;
 use trials::byte_at;
 use trials::set_byte;
@@ -58,24 +57,23 @@ pub(crate) fn joined(table: &[u8], set: u64, u: usize, v: usize) -> usize
     0
 }
 
-// Row u of the graph that a set induces: the members joined to u, and none where u is no member.
-fn induced_row(table: &[u8], set: u64, u: usize) -> u64
+// The row of badge u, if it is of a set, and else an empty one.
+fn kept_row(rows: &[u64], set: u64, u: usize) -> u64
     requires { ⌜ u < 64 ⌝ }
 {
-    let mut word = 0;
-    for v in 0..64usize {
-        word = with_bit(word, v, bit(set, u) == 1 && joined(table, set, u, v) == 1);
+    if bit(set, u) == 1 {
+        return word_at(rows, u);
     }
-    word
+    0
 }
 
-// All rows of the graph that a set induces.
-pub(crate) fn induced_rows(table: &[u8], set: u64) -> [u64; 64]
+// The rows of a set's members, and an empty row for every other badge.
+pub(crate) fn kept_rows(rows: &[u64], set: u64) -> [u64; 64]
     ensures { λ r. ⌜ 64 ≡ length r ⌝ }
 {
-    let mut rows = [0u64; 64];
+    let mut out = [0u64; 64];
     for u in 0..64usize {
-        set_word(&mut rows, u, induced_row(table, set, u));
+        set_word(&mut out, u, kept_row(rows, set, u));
     }
-    rows
+    out
 }

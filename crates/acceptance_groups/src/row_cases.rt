@@ -1,6 +1,6 @@
 // A case of each public function of cores: its answer has to be the second implementation's.
 ghost use Prim.Native.Nat.{_<_};
-use crate::graphs::induced_rows;
+use crate::graphs::kept_rows;
 use crate::graphs::row_table;
 use crate::highest::Core;
 use crate::highest::highest_core;
@@ -15,7 +15,7 @@ pub(crate) fn peel_case(tally: Tally, rows: [u64; 64], base: u64, order: usize) 
     let got = cores::peel(rows, BadgeSet::from_word(base), order);
     let table = row_table(&rows);
     let members = peeling::core(&table, base, order);
-    let expected = induced_rows(&table, members);
+    let expected = kept_rows(&rows, members);
     let cut = got.rows;
     let found = got.members;
     tally.with_case(

@@ -1,14 +1,14 @@
 // Peeling: badges of low degree are dropped until none is left to drop.
 ghost use mathlib.Core.Path.{_≡_};
 ghost use Rattle.sets.specs.Members.{members};
-ghost use Rattle.cores.specs.Rows.{graph, induced, IsPeeled};
+ghost use Rattle.cores.specs.Rows.{graph, keptRows, IsPeeled};
 ghost use Rattle.cores.specs.Passes.{LookedAt, Passed, IsCoreKept};
 use sets::BadgeSet;
 
 // What is left of a set while badges are dropped, and the least degree among those that were kept; 64 where none was.
-struct Kept {
-    members: BadgeSet,
-    least: usize,
+pub(crate) struct Kept {
+    pub(crate) members: BadgeSet,
+    pub(crate) least: usize,
 }
 
 // Looks at badge u: it is dropped if it has fewer neighbours in what is left than the order asks; else the least degree takes its degree in.
@@ -45,7 +45,7 @@ fn pass(rows: &[u64; 64], s: BadgeSet, order: usize) -> Kept
         let u = unseen.smallest();
         let next = look_at(kept, rows[u], order, u);
         kept = next;
-        let rest = unseen.without(u);
+        let rest = unseen.rest();
         unseen = rest;
     }
     kept
@@ -53,7 +53,7 @@ fn pass(rows: &[u64; 64], s: BadgeSet, order: usize) -> Kept
 
 // The members of the core of an order among the badges of a base set, and their least degree. Each removal lowers others, so passes follow
 // until one drops nobody; that one has seen the degrees in the core.
-fn core(rows: &[u64; 64], base: BadgeSet, order: usize) -> Kept
+pub(crate) fn core(rows: &[u64; 64], base: BadgeSet, order: usize) -> Kept
     ensures { λ r. ⌜ IsCoreKept (graph (now (rows .entry))) (members base) order (members (r .members)) (r .least) ⌝ }
 {
     let mut left = base;
@@ -67,16 +67,16 @@ fn core(rows: &[u64; 64], base: BadgeSet, order: usize) -> Kept
     }
 }
 
-// The rows of the induced subgraph of a set: each member's row cut to the set, and empty rows.
-fn induce(rows: [u64; 64], s: BadgeSet) -> [u64; 64]
-    ensures { λ r. ⌜ r ≡ induced rows (members s) ⌝ }
+// The rows of the members of a set, and an empty row for every other badge.
+pub(crate) fn keep(rows: [u64; 64], s: BadgeSet) -> [u64; 64]
+    ensures { λ r. ⌜ r ≡ keptRows rows (members s) ⌝ }
 {
-    let mut out = [0u64; 64];
-    let mut unseen = s;
+    let mut out = rows;
+    let mut unseen = BadgeSet::full(64).difference(s);
     while !unseen.is_empty() {
         let u = unseen.smallest();
-        out[u] = BadgeSet::from_word(rows[u]).intersection(s).to_word();
-        let rest = unseen.without(u);
+        out[u] = 0;
+        let rest = unseen.rest();
         unseen = rest;
     }
     out
@@ -89,15 +89,15 @@ pub struct Peeled {
     pub least: usize,
 }
 
-// The rows of the core of an order among the badges of a base set: each member's row cut to the core, and an empty row for every other
-// badge. With them come the core's members and their least degree.
+// The rows of the core of an order among the badges of a base set: each member's row, and an empty row for every other badge. With them come
+// the core's members and their least degree.
 pub fn peel(rows: [u64; 64], base: BadgeSet, order: usize) -> Peeled
     ensures { λ r. ⌜ IsPeeled rows (members base) order (r .rows) (members (r .members)) (r .least) ⌝ }
 {
     let kept = core(&rows, base, order);
     let members = kept.members;
     Peeled {
-        rows: induce(rows, members),
+        rows: keep(rows, members),
         members,
         least: kept.least,
     }

@@ -5,15 +5,16 @@ ghost use lib.Dec.{ltb};
 ghost use Rattle.sets.specs.Bools.{_and_};
 ghost use Rattle.sets.specs.Members.{members};
 ghost use Rattle.sets.specs.Sets.{isSub};
-ghost use Rattle.cores.specs.Orders.{highestOrder, highestMembers};
-ghost use Rattle.cores.specs.Rows.{graph};
-use crate::peeling::peel;
+ghost use Rattle.cores.specs.Rows.{IsHighest};
+use crate::peeling::core;
+use crate::peeling::keep;
 use sets::BadgeSet;
 
-// A core: its order and its members.
+// A core: its order, its members, and their rows, with an empty row for every other badge.
 pub struct Core {
     pub order: u8,
     pub members: BadgeSet,
+    pub rows: [u64; 64],
 }
 
 // Whether a set is there and contains the query.
@@ -41,27 +42,27 @@ fn capped(x: usize, most: u8) -> u8
 }
 
 // The core of the largest order above one given order and up to another, among the badges of a base set, that contains the query; the lower
-// order and no members where there is none. A core whose least degree is d is the core of every order up to d, so the next order tried is
-// d + 1.
+// order and no members where there is none. Within it the rows stay and a set shrinks. A core whose least degree is d is the core of every
+// order up to d, so the next order tried is d + 1.
 pub fn highest_core(rows: [u64; 64], base: BadgeSet, query: BadgeSet, above: u8, most: u8) -> Core
-    ensures order { λ r. ⌜ r .order ≡ highestOrder (graph rows) (members base) (members query) above most ⌝ }
-    ensures members { λ r. ⌜ members (r .members) ≡ highestMembers (graph rows) (members base) (members query) above most ⌝ }
+    ensures { λ r. ⌜ IsHighest rows (members base) (members query) above most (r .order) (members (r .members)) (r .rows) ⌝ }
 {
-    let mut left = rows;
     let mut among = base;
     let mut order = above;
     let mut members = BadgeSet::EMPTY;
     while order < most {
-        let peeled = peel(left, among, widen(order) + 1);
-        let next = peeled.members;
+        let found = core(&rows, among, widen(order) + 1);
+        let next = found.members;
         if !contains(next, query) {
-            return Core { order, members };
+            break;
         }
-        let cut = peeled.rows;
-        left = cut;
         among = next;
-        order = capped(peeled.least, most);
+        order = capped(found.least, most);
         members = next;
     }
-    Core { order, members }
+    Core {
+        order,
+        members,
+        rows: keep(rows, members),
+    }
 }

@@ -2,7 +2,7 @@
 use mathlib.Core.Path.{_≡_, refl, sym, ap, _∙_}
 use mathlib.Core.List.{List}
 use mathlib.Core.Logic.{by-cases}
-use Prim.Native.Nat.{ℕ, _+_, _≤_, _<_, min}
+use Prim.Native.Nat.{ℕ, _+_, _≤_, _<_, min, max}
 use native.Mathlib.Nat.{le-refl}
 use native.Mathlib.Decide.{decLt}
 use native.Mathlib.Omega.{arith}
@@ -13,18 +13,33 @@ use Rattle.sets.specs.Members.{capacity}
 use Rattle.records.specs.Limits.{maxTicks}
 use Rattle.records.proofs.WithinLimits.{limits-of}
 use Rattle.days.specs.Days.{LentDay}
+use Rattle.cores.specs.Cores.{core}
 use Rattle.cores.specs.Orders.{highestOrder, highestMembers}
 use Rattle.cores.specs.Rows.{graph}
+use Rattle.cores.proofs.Orders.{score-among, highest-among}
 use Rattle.spans.specs.Spans.{SpanOfDay, spanRows}
 use Rattle.spans.specs.SpanCores.{coreOn}
 use Rattle.spans.specs.Plans.{scoreOn}
 use Rattle.spans.specs.LongerSpans.{scoreBefore, newMembers}
 use Rattle.spans.proofs.Maximal.{score-falls, score-before-le, score-on-le, new-yes, new-no}
-use Rattle.groups.specs.Steps.{RowsTo}
-use Rattle.groups.specs.Lines.{CoreAsked, CoreFound, ScoresBefore, LineFound}
-use Rattle.groups.proofs.RowCores.{rows-score, rows-core, rows-none}
+use Rattle.groups.specs.Steps.{RowsTo, Unites}
+use Rattle.groups.specs.Lines.{ScoresBefore, LineFound}
+use Rattle.groups.proofs.RowCores.{rows-score, rows-core, rows-none, united-core}
 
 -- ---- one span
+
+-- a span on which the score of a query is asked for: it is no larger than the upper bound, and the lower bound is that of the longer span
+pub record CoreAsked (n T : ℕ) (ws : List ℕ) (query first last lower upper : ℕ) (rows : List ℕ) (reached : ℕ) : Type 0 where
+  pub span : SpanOfDay n T ws first last
+  pub rows-to : RowsTo n ws first last rows reached
+  pub below : lower ≡ scoreBefore n ws query first last
+  pub above : scoreOn n ws query first last ≤ upper
+
+-- its score, the members of its core where the score is above the lower bound, and rows that were narrowed no further than to its last tick
+pub record CoreFound (n : ℕ) (ws : List ℕ) (query first last order members : ℕ) (rows : List ℕ) (reached : ℕ) : Type 0 where
+  pub score : order ≡ scoreOn n ws query first last
+  pub new : members ≡ newMembers n ws query first last
+  pub rows-to : RowsTo n ws first last rows reached
 
 module _ {n T : ℕ} {ws : List ℕ} {query first last lower upper : ℕ} {rows : List ℕ} {reached : ℕ} (a : CoreAsked n T ws query first last lower upper rows reached) where
   -- where the bounds meet, they are the score
@@ -34,21 +49,26 @@ module _ {n T : ℕ} {ws : List ℕ} {query first last lower upper : ℕ} {rows 
       record { score = e; new = sym (new-no n ws query first last (omega (arith, a .below))); rows-to = a .rows-to }
 
   -- elsewhere the core is found from the span's rows
-  pub core-found : {longer : List ℕ} {base order members : ℕ} → longer ≡ spanRows n ws first last → base ≡ full (min n capacity)
+  pub core-found : {longer : List ℕ} {base order members : ℕ} → longer ≡ spanRows n ws first last → Unites longer base
       → order ≡ highestOrder (graph longer) base query lower upper → members ≡ highestMembers (graph longer) base query lower upper
       → CoreFound n ws query first last order members longer last
+  unfolding highestOrder
   core-found {longer} {base} {order} {members} e b o m =
       record {
-        score = omega (arith, rw z at o, rows-score n ws first last few e query lower upper, a .below, a .above, score-before-le n ws query first last);
-        new = rw z at m ∙ by-cases (decLt lower (scoreOn n ws query first last)) found none;
+        score = omega (arith, o, order-here, rows-score n ws first last few e query lower upper, a .below, a .above, score-before-le n ws query first last);
+        new = m ∙ highest-among (graph longer) base (full n) here query lower upper ∙ by-cases (decLt lower (scoreOn n ws query first last)) found none;
         rows-to = record { low = a .span .rising; high = le-refl last; are = e };
       }
     where
       few : n ≤ capacity
       few = limits-of (a .span .lent .limits) .few
 
-      z : base ≡ full n
-      z = let k : min n capacity ≡ n = omega (arith, few) in b ∙ ap full k
+      -- a badge that is in no row is in no core
+      here : (j : ℕ) → 1 ≤ j → core (graph longer) base j ≡ core (graph longer) (full n) j
+      here j l = united-core (a .span) e b j l
+
+      order-here : highestOrder (graph longer) base query lower upper ≡ highestOrder (graph longer) (full n) query lower upper
+      order-here = ap (λ (x : ℕ). max lower (min upper x)) (score-among (graph longer) base (full n) here query)
 
       least : min upper (scoreOn n ws query first last) ≡ scoreOn n ws query first last
       least = omega (arith, a .above)

@@ -1,21 +1,27 @@
 -- Laws of the loops that work out a span's rows: rows filled from the front, and rows narrowed tick by tick.
-use mathlib.Core.Path.{_≡_, refl, ap, _∙_}
+use mathlib.Core.Path.{_≡_, refl, sym, ap, _∙_}
 use mathlib.Core.List.{List}
+use mathlib.Core.Logic.{by-cases}
 use Prim.Native.Nat.{ℕ, suc, _+_, _-_, _*_, _≤_, _<_, min}
 use native.Mathlib.Nat.{le-refl, suc-mul}
 use native.Mathlib.Numerals.{add-one}
+use native.Mathlib.Decide.{ℕ-discrete}
 use native.Mathlib.Omega.{arith}
-use lib.ListN.{length, getD, take, drop, List·getD-eq-default}
-use Rattle.sets.specs.Sets.{intersection}
+use lib.ListN.{length, getD, set, take, drop, length-set, length-drop, List·getD-eq-default}
+use lib.Seq.{length-take-le, getD-set-same, getD-set-other}
+use Rattle.sets.specs.Sets.{intersection, full}
 use Rattle.sets.specs.Members.{capacity}
-use Rattle.sets.proofs.Tables.{front, front-done}
+use Rattle.sets.specs.Tables.{tabulate, piecewise}
+use Rattle.sets.proofs.Sets.{in-full, of-full}
+use Rattle.sets.proofs.Tables.{tabulate-length, tabulate-at, tabulate-is, piecewise-in, piecewise-out, piecewise-same, front, front-done}
 use Rattle.records.proofs.WithinLimits.{limits-of}
 use Rattle.days.proofs.Days.{tick-fits}
 use Rattle.spans.specs.Spans.{SpanOfDay, spanRows}
+use Rattle.spans.proofs.SpanRows.{span-length}
 use Rattle.groups.specs.Steps.{tickOf, tickRows, narrowed, Narrows, RowsTo}
-use Rattle.groups.proofs.TickRows.{intersection-none, tick-span, narrow-span}
+use Rattle.groups.proofs.TickRows.{tick-span, narrow-span}
 
--- filled as far as there are words, the rows are those of the tick, and those that the tick narrows
+-- filled as far as there are words, the rows are those of the tick
 past : (tick : List ℕ) {m u : ℕ} → u ≡ min m (length tick) → (k : ℕ) → u ≤ k → k < m → getD tick k 0 ≡ 0
 past tick e k l r = List·getD-eq-default tick 0 (omega arith)
 
@@ -23,14 +29,39 @@ pub tick-done : (tick : List ℕ) {out : List ℕ} {u : ℕ} → u ≡ min capac
 unfolding tickRows
 tick-done tick e o = front-done capacity _ (omega arith) (past tick e) o
 
-pub narrow-done : (rows tick : List ℕ) {out : List ℕ} {u : ℕ} → u ≡ min capacity (length tick)
-    → out ≡ front capacity (λ k. intersection (getD rows k 0) (getD tick k 0)) u → out ≡ narrowed rows tick
-unfolding narrowed
-narrow-done rows tick e o = front-done capacity _ (omega arith) (λ k l r. ap (intersection _) (past tick e k l r) ∙ intersection-none _) o
+-- Rows that are narrowed in place, row by row: at the start, after one row more, and where the tick ends.
+module _ (rows tick : List ℕ) where
+  abbrev cut : ℕ → ℕ
+  cut k = intersection (getD rows k 0) (getD tick k 0)
+
+  abbrev pub narrowing : ℕ → List ℕ
+  narrowing u = tabulate capacity (piecewise (full u) cut (λ k. getD rows k 0))
+
+  pub narrow-none : length rows ≡ capacity → rows ≡ narrowing 0
+  narrow-none e = tabulate-is capacity rows _ e (λ i l. sym (piecewise-out (full 0) cut _ i (λ j. omega (arith, of-full 0 i j))))
+
+  pub narrow-more : {out : List ℕ} (u : ℕ) → u < capacity → out ≡ narrowing u → set out u (intersection (getD out u 0) (getD tick u 0)) ≡ narrowing (u + 1)
+  narrow-more {out} u l o = tabulate-is capacity _ _ (length-set out u _ ∙ long) (λ i k. by-cases (ℕ-discrete i u)
+      (λ e. rw e (getD-set-same out u _ 0 (omega (arith, long)) ∙ ap (λ (x : ℕ). intersection x (getD tick u 0)) here ∙ sym (piecewise-in (full (u + 1)) cut _ u (in-full (u + 1) u (omega arith)))))
+      (λ e. getD-set-other out u i _ 0 e ∙ at i k
+      ∙ piecewise-same (full u) (full (u + 1)) cut _ i (λ j. in-full (u + 1) i (omega (arith, of-full u i j))) (λ j. in-full u i (omega (arith, of-full (u + 1) i j)))))
+    where
+      long : length out ≡ capacity
+      long = ap length o ∙ tabulate-length capacity _
+
+      at : (i : ℕ) → i < capacity → getD out i 0 ≡ piecewise (full u) cut (λ k. getD rows k 0) i
+      at i k = ap (λ (x : List ℕ). getD x i 0) o ∙ tabulate-at capacity _ i k
+
+      here : getD out u 0 ≡ getD rows u 0
+      here = at u l ∙ piecewise-out (full u) cut _ u (λ j. omega (arith, of-full u u j))
+
+  pub narrow-done : {out : List ℕ} {u : ℕ} → u ≡ length tick → out ≡ narrowing u → out ≡ narrowed rows tick
+  unfolding narrowed
+  narrow-done e o = rw e at o
 
 -- narrowed rows are, for the rows of any span and the next tick, those of the longer span
 pub narrows : {rows tick out : List ℕ} → out ≡ narrowed rows tick → Narrows rows tick out
-narrows {rows} {tick} {out} o = record { span = λ n ws first last w h e f. o ∙ rw (e, f) (narrow-span n ws first last w h) }
+narrows {rows} {tick} {out} o = record { span = λ n ws first last w h e f g. o ∙ rw (e, f) (narrow-span n ws first last w h (rw f at g)) }
 
 -- the words of a tick of a span are among the words, from t * n on, and the n words from there are the tick's
 pub tick-inside : {n T : ℕ} {ws : List ℕ} {first last : ℕ} (t : ℕ) → SpanOfDay n T ws first last → t ≤ last → t * n + n ≤ length ws
@@ -70,13 +101,22 @@ module _ {n T : ℕ} {ws : List ℕ} {first last : ℕ} (d : SpanOfDay n T ws fi
     pub next-inside : at + n + n ≤ length ws
     next-inside = omega (arith, next-place, tick-inside (suc t) d l)
 
+    pub next-length : length (take (at + n + n - (at + n)) (drop (at + n) ws)) ≡ n
+    next-length =
+        let e : at + n + n - (at + n) ≡ n = omega arith in
+        rw e (length-take-le n (drop (at + n) ws) (omega (arith, next-inside, length-drop (at + n) ws)))
+
     pub going-next : {longer : List ℕ} → Narrows rows (take (at + n + n - (at + n)) (drop (at + n) ws)) longer → Going n ws first last (t + 1) (at + n) longer
     going-next h = rw add-one (record {
       low = omega (arith, g .low);
       high = l;
       place = next-place;
-      rows = h .span n ws first t few (g .low) (g .rows) (slice-tick n ws (suc t) next-place);
+      rows = h .span n ws first t few (g .low) (g .rows) (slice-tick n ws (suc t) next-place) next-length;
     })
+
+-- rows of a span are as many as a set holds badges
+pub going-size : {n : ℕ} {ws : List ℕ} {first last t at : ℕ} {rows : List ℕ} → Going n ws first last t at rows → length rows ≡ capacity
+going-size {n} {ws} {first} {t = t} g = ap length (g .rows) ∙ span-length n ws first t
 
 pub going-end : {n : ℕ} {ws : List ℕ} {first last t at : ℕ} {rows : List ℕ} → Going n ws first last t at rows → last ≤ t → rows ≡ spanRows n ws first last
 going-end {n} {ws} {first} {last} {t} g l = let e : t ≡ last = omega (arith, g .high) in g .rows ∙ ap (spanRows n ws first) e

@@ -1,15 +1,29 @@
--- The highest core found from the rows of a span is that of the span.
+-- The highest core found from the rows of a span is that of the span, also among the badges that are in some row.
 use mathlib.Core.Path.{_≡_, ap, _∙_}
 use mathlib.Core.List.{List}
-use Prim.Native.Nat.{ℕ, _≤_, _<_, min, max}
-use Rattle.sets.specs.Sets.{full}
+use mathlib.Core.Logic.{inl, inr, by-cases}
+use Prim.Native.Nat.{ℕ, _+_, _≤_, _<_, min, max}
+use native.Mathlib.Nat.{le-refl, le-trans}
+use native.Mathlib.Decide.{decLt}
+use native.Mathlib.Omega.{arith}
+use lib.ListN.{length, getD, List·getD-eq-default}
+use Rattle.sets.specs.Sets.{In, Sub, full, union, intersection, size}
 use Rattle.sets.specs.Members.{capacity}
+use Rattle.sets.proofs.Sets.{not-in-none, some, in-union-left, in-union-right, of-union, of-intersection-left, of-intersection-right, in-full, of-full, sub-antisym}
+use Rattle.sets.proofs.Size.{size-none}
+use Rattle.records.proofs.WithinLimits.{limits-of}
+use Rattle.cores.specs.Graphs.{degree}
+use Rattle.cores.specs.Cores.{core}
 use Rattle.cores.specs.Orders.{highestOrder, highestMembers}
 use Rattle.cores.specs.Rows.{graph}
+use Rattle.cores.proofs.Degrees.{pairs-refl}
+use Rattle.cores.proofs.Cores.{core-sub, core-cohesive, core-largest, core-mono}
 use Rattle.cores.proofs.Orders.{score-same, highest-same, highest-yes, highest-no}
-use Rattle.spans.specs.Spans.{spanNeighbours, spanRows}
+use Rattle.spans.specs.Spans.{SpanOfDay, spanNeighbours, spanRows}
 use Rattle.spans.specs.SpanCores.{coreOn}
 use Rattle.spans.specs.Plans.{scoreOn}
+use Rattle.spans.proofs.SpanRows.{in-span, of-span, span-row, span-row-none}
+use Rattle.groups.specs.Steps.{Unites}
 use Rattle.groups.proofs.NumbersCall.{rows-fewer, rows-more}
 
 module _ (n : ℕ) (ws : List ℕ) (first last : ℕ) (w : n ≤ capacity) {rows : List ℕ} (e : rows ≡ spanRows n ws first last) (query above most : ℕ) where
@@ -29,3 +43,65 @@ module _ (n : ℕ) (ws : List ℕ) (first last : ℕ) (w : n ≤ capacity) {rows
   pub rows-none : min most (scoreOn n ws query first last) ≤ above → highestMembers (graph rows) (full n) query above most ≡ 0
   unfolding scoreOn
   rows-none h = rows-members ∙ highest-no (spanNeighbours n ws first last) (full n) query above most h
+
+-- ---- the badges that are in some row
+
+module _ {n T : ℕ} {ws : List ℕ} {first last : ℕ} (d : SpanOfDay n T ws first last) {rows : List ℕ} (e : rows ≡ spanRows n ws first last) {s : ℕ} (b : Unites rows s) where
+  few : n ≤ capacity
+  few = limits-of (d .lent .limits) .few
+
+  -- the row of a badge of the day is that of its neighbours on the span
+  row : (u : ℕ) → u < n → graph rows u ≡ spanNeighbours n ws first last u
+  row u l = rw e (span-row n ws first last u few l)
+
+  -- a badge's neighbours have it for a neighbour
+  back : (u v : ℕ) → u < n → v < n → In (graph rows u) v → In (graph rows v) u
+  back u v l m i =
+      let t = of-span n ws first last u v (rw (row u l) at i) .1 in
+      rw (row v m) (in-span n ws first last v u l (λ k p q. d .lent .day .tick k (omega (arith, d .inside)) .symmetric u v l m (t k p q)))
+
+  -- they are badges of the day
+  within : Sub s (full n)
+  within = record {
+    at = λ v i. let x = b .of v i in in-full n v (by-cases (decLt (x .0) n)
+        (λ l. of-span n ws first last (x .0) v (rw (row (x .0) l) at (x .1)) .0)
+        (λ l. absurd (not-in-none v (rw (ap (λ (r : List ℕ). graph r (x .0)) e ∙ span-row-none n ws first last (x .0) (omega arith)) at (x .1)))));
+  }
+
+  -- and every core of order 1 or more is among them
+  pub united-core : (j : ℕ) → 1 ≤ j → core (graph rows) s j ≡ core (graph rows) (full n) j
+  unfolding degree
+  united-core j l = sub-antisym _ _
+      (core-mono s (full n) j j within (pairs-refl s (graph rows)) (le-refl j))
+      (core-largest (graph rows) s j _ (record { at = member }) (core-cohesive (graph rows) (full n) j))
+    where
+      member : (v : ℕ) → In (core (graph rows) (full n) j) v → In s v
+      member v i =
+          let m = of-full n v (core-sub (graph rows) (full n) j .at v i) in
+          let p : 1 ≤ size (intersection (graph rows v) (core (graph rows) (full n) j)) = le-trans l (core-cohesive (graph rows) (full n) j .each v i) in
+          let x = some (intersection (graph rows v) (core (graph rows) (full n) j)) (λ z. omega (arith, ap size z, size-none)) in
+          let u = of-full n (x .0) (core-sub (graph rows) (full n) j .at (x .0) (of-intersection-right (graph rows v) (core (graph rows) (full n) j) (x .0) (x .1))) in
+          b .has (x .0) v (back v (x .0) m u (of-intersection-left (graph rows v) (core (graph rows) (full n) j) (x .0) (x .1)))
+
+-- The loop that unites rows, at row u: the set has every badge that is in a row before it, and no other.
+pub record Uniting (rows : List ℕ) (u s : ℕ) : Type 0 where
+  pub has : (k v : ℕ) → k < u → In (getD rows k 0) v → In s v
+  pub of : (v : ℕ) → In s v → (k : ℕ) × In (getD rows k 0) v
+
+pub uniting-none : (rows : List ℕ) → Uniting rows 0 0
+uniting-none rows = record { has = λ k v l i. absurd (omega arith); of = λ v i. absurd (not-in-none v i) }
+
+pub uniting-more : {rows : List ℕ} {u s : ℕ} → Uniting rows u s → Uniting rows (u + 1) (union s (getD rows u 0))
+uniting-more {rows} {u} {s} h = record {
+  has = λ k v l i. by-cases (decLt k u)
+      (λ m. in-union-left s (getD rows u 0) v (h .has k v m i))
+      (λ m. let e : k ≡ u = omega arith in in-union-right s (getD rows u 0) v (rw e at i));
+  of = λ v i. elim (of-union s (getD rows u 0) v i) [ inl j ↦ h .of v j | inr j ↦ (u, j) ];
+}
+
+-- after the last row
+pub uniting-all : {rows : List ℕ} {u s : ℕ} → Uniting rows u s → length rows ≤ u → Unites rows s
+uniting-all {rows} {u} h l = record {
+  has = λ k v i. by-cases (decLt k u) (λ m. h .has k v m i) (λ m. let p : length rows ≤ k = omega arith in absurd (not-in-none v (rw (List·getD-eq-default rows 0 p) at i)));
+  of = h .of;
+}

@@ -7,8 +7,7 @@ use Prim.Native.Nat.{ℕ, suc, _*_, _≤_, _<_}
 use native.Mathlib.Nat.{le-refl}
 use native.Mathlib.Decide.{decLt, decLe}
 use native.Mathlib.Omega.{arith}
-use lib.Bits.{and-zero-r}
-use lib.ListN.{getD, take, drop, length-take, List·getD-eq-default}
+use lib.ListN.{length, getD, take, drop, length-take, List·getD-eq-default}
 use Rattle.sets.specs.Sets.{In, full, intersection}
 use Rattle.sets.specs.Members.{capacity}
 use Rattle.sets.specs.Tables.{tabulate}
@@ -17,7 +16,7 @@ use Rattle.sets.proofs.Tables.{tabulate-same, piecewise-in, piecewise-out}
 use Rattle.days.specs.Days.{neighbours, IsDay}
 use Rattle.days.proofs.Days.{neighbours-part}
 use Rattle.spans.specs.Spans.{spanNeighbours, spanRows}
-use Rattle.spans.proofs.SpanRows.{in-span, of-span, span-row}
+use Rattle.spans.proofs.SpanRows.{in-span, of-span, span-row, span-row-none}
 use Rattle.groups.specs.Steps.{tickOf, tickRows, narrowed}
 
 -- rows that are those of a span below n and empty from n up are the rows of the span
@@ -50,11 +49,6 @@ tick-span n T ws t d l = rows-are n ws t t _ (λ u k. tick-at n ws t u k ∙ ext
     back : (u v : ℕ) → In (spanNeighbours n ws t t u) v → In (neighbours n ws t u) v
     back u v i = of-span n ws t t u v i .1 t (le-refl t) (le-refl t)
 
--- an intersection with the empty set is empty
-pub intersection-none : (s : ℕ) → intersection s 0 ≡ 0
-unfolding intersection
-intersection-none s = and-zero-r s
-
 -- the neighbours on a span that are neighbours in the next tick are those on the span that is longer by this tick
 longer : (n : ℕ) (ws : List ℕ) (first last u : ℕ) → first ≤ last
     → intersection (spanNeighbours n ws first last u) (neighbours n ws (suc last) u) ≡ spanNeighbours n ws first (suc last) u
@@ -74,10 +68,10 @@ longer n ws first last u h = ext _ _ there back
         in-intersection _ _ v (in-span n ws first last u v (s .0) (λ t p q. s .1 t p (omega arith))) (s .1 (suc last) (omega arith) (le-refl _))
 
 -- narrowed by the next tick, the rows of a span are those of the span that is longer by this tick
-pub narrow-span : (n : ℕ) (ws : List ℕ) (first last : ℕ) → n ≤ capacity → first ≤ last
+pub narrow-span : (n : ℕ) (ws : List ℕ) (first last : ℕ) → n ≤ capacity → first ≤ last → length (tickOf n ws (suc last)) ≡ n
     → narrowed (spanRows n ws first last) (tickOf n ws (suc last)) ≡ spanRows n ws first (suc last)
 unfolding narrowed
-narrow-span n ws first last w h =
-    rows-are n ws first (suc last) _
-    (λ u k. ap₂ intersection (span-row n ws first last u w k) (tick-at n ws (suc last) u k) ∙ longer n ws first last u h)
-    (λ u k. ap (intersection _) (tick-past n ws (suc last) u k) ∙ intersection-none _)
+narrow-span n ws first last w h e =
+    rw e (rows-are n ws first (suc last) _
+    (λ u k. piecewise-in (full n) _ _ u (in-full n u k) ∙ ap₂ intersection (span-row n ws first last u w k) (tick-at n ws (suc last) u k) ∙ longer n ws first last u h)
+    (λ u k. piecewise-out (full n) _ _ u (λ i. omega (arith, of-full n u i)) ∙ span-row-none n ws first last u k))

@@ -4,23 +4,8 @@ use mathlib.Core.Path.{_≡_}
 use Prim.Native.Nat.{ℕ, suc, _≤_, _<_}
 use lib.ListN.{length, getD}
 use Rattle.records.specs.Limits.{maxTicks}
-use Rattle.spans.specs.Spans.{SpanOfDay}
 use Rattle.spans.specs.Plans.{scoreOn}
 use Rattle.spans.specs.LongerSpans.{scoreBefore, newMembers}
-use Rattle.groups.specs.Steps.{RowsTo}
-
--- a span on which the score of a query is asked for: it is no larger than the upper bound, and the lower bound is that of the longer span
-pub record CoreAsked (n T : ℕ) (ws : List ℕ) (query first last lower upper : ℕ) (rows : List ℕ) (reached : ℕ) : Type 0 where
-  pub span : SpanOfDay n T ws first last
-  pub rows-to : RowsTo n ws first last rows reached
-  pub below : lower ≡ scoreBefore n ws query first last
-  pub above : scoreOn n ws query first last ≤ upper
-
--- its score, the members of its core where the score is above the lower bound, and rows that were narrowed no further than to its last tick
-pub record CoreFound (n : ℕ) (ws : List ℕ) (query first last order members : ℕ) (rows : List ℕ) (reached : ℕ) : Type 0 where
-  pub score : order ≡ scoreOn n ws query first last
-  pub new : members ≡ newMembers n ws query first last
-  pub rows-to : RowsTo n ws first last rows reached
 
 -- scores by last tick: those of the spans that start one tick before first
 pub record ScoresBefore (n T : ℕ) (ws : List ℕ) (query first : ℕ) (orders : List ℕ) : Type 0 where

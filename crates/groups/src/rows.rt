@@ -1,9 +1,11 @@
 // The rows of a span: for each badge, those in contact with it in every tick.
 ghost use mathlib.Core.Path.{_≡_};
-ghost use Prim.Native.Nat.{min};
+ghost use Prim.Native.Nat.{_≤_, min};
 ghost use lib.ListN.{length};
+ghost use Rattle.sets.specs.Members.{capacity, members};
 ghost use Rattle.spans.specs.Spans.{spanRows, SpanOfDay};
-ghost use Rattle.groups.specs.Steps.{tickRows, narrowed, Narrows, RowsTo};
+ghost use Rattle.groups.specs.Steps.{tickRows, narrowed, Narrows, RowsTo, Unites};
+use sets::BadgeSet;
 
 // The smaller of a tick's number of words and 64.
 fn row_count(tick: &[u64]) -> usize
@@ -23,39 +25,46 @@ pub(crate) fn tick_rows(tick: &[u64]) -> [u64; 64]
     out
 }
 
-// Rows narrowed by one tick more: of the neighbours of each badge, those that are in contact with it in that tick, too.
-pub(crate) fn narrow(rows: [u64; 64], tick: &[u64]) -> [u64; 64]
-    ensures rows { λ r. ⌜ r ≡ narrowed rows (now (tick .entry)) ⌝ }
-    ensures span { λ r. ⌜ Narrows rows (now (tick .entry)) r ⌝ }
+// Narrows rows by one tick more: of the neighbours of each badge that the tick has, those stay that are in contact with it in that tick, too.
+pub(crate) fn narrow(rows: &mut [u64], tick: &[u64])
+    requires { ⌜ (length (now rows) ≡ capacity) × (length (now tick) ≤ capacity) ⌝ }
+    ensures rows { λ _. ⌜ now (rows .exit) ≡ narrowed (now (rows .entry)) (now (tick .entry)) ⌝ }
+    ensures span { λ _. ⌜ Narrows (now (rows .entry)) (now (tick .entry)) (now (rows .exit)) ⌝ }
 {
-    let mut out = [0u64; 64];
-    for u in 0..row_count(tick) {
-        out[u] = rows[u] & tick[u];
+    for u in 0..tick.len() {
+        rows[u] = rows[u] & tick[u];
     }
-    out
 }
 
-// The rows of the span from tick first to tick last, narrowed tick by tick from those of the span to an earlier tick.
+// Narrows the rows of the span from tick first to an earlier tick, tick by tick, to those of the span from tick first to tick last.
 pub(crate) fn narrow_to(
-    rows: [u64; 64],
+    rows: &mut [u64],
     words: &[u64],
     n: usize,
     ticks: usize,
     first: usize,
     reached: usize,
     last: usize,
-) -> [u64; 64]
-    requires { ⌜ SpanOfDay n ticks (now words) first last × RowsTo n (now words) first last rows reached ⌝ }
-    ensures { λ r. ⌜ r ≡ spanRows n (now (words .entry)) first last ⌝ }
+)
+    requires { ⌜ SpanOfDay n ticks (now words) first last × RowsTo n (now words) first last (now rows) reached ⌝ }
+    ensures { λ _. ⌜ now (rows .exit) ≡ spanRows n (now (words .entry)) first last ⌝ }
 {
-    let mut out = rows;
     let mut at = reached * n;
     for _ in reached..last {
         at += n;
-        let narrower = narrow(out, &words[at..at + n]);
-        out = narrower;
+        narrow(rows, &words[at..at + n]);
     }
-    out
+}
+
+// Every badge that is in some row.
+pub(crate) fn united(rows: &[u64]) -> BadgeSet
+    ensures { λ r. ⌜ Unites (now (rows .entry)) (members r) ⌝ }
+{
+    let mut all: u64 = 0;
+    for u in 0..rows.len() {
+        all = all | rows[u];
+    }
+    BadgeSet::from_word(all)
 }
 
 // The rows of the span from tick first to tick last.
@@ -70,6 +79,7 @@ pub(crate) fn span_rows(
     ensures { λ r. ⌜ r ≡ spanRows n (now (words .entry)) first last ⌝ }
 {
     let at = first * n;
-    let rows = tick_rows(&words[at..at + n]);
-    narrow_to(rows, words, n, ticks, first, first, last)
+    let mut rows = tick_rows(&words[at..at + n]);
+    narrow_to(&mut rows, words, n, ticks, first, first, last);
+    rows
 }

@@ -21,6 +21,10 @@ pub smallest-unseen : {w s unseen u : ℕ} {empty : Bool} → Sub unseen s → s
 smallest-unseen {w} {s} {unseen} {u} h l t f e =
     rw e (smallest-member w unseen (sub-lt w unseen s h l) (eqb-false _ _ (sym t ∙ not-true _ f)))
 
+-- what is left after its turn
+pub rest-is : (w unseen : ℕ) {u rest : ℕ} → u ≡ smallest w unseen → rest ≡ difference unseen (only (smallest w unseen)) → rest ≡ difference unseen (only u)
+rest-is w unseen e r = rw e r
+
 -- where the test finds none, none is unseen
 pub none-unseen : {unseen : ℕ} {empty : Bool} → empty ≡ eqb unseen 0 → not empty ≡ false → unseen ≡ 0
 none-unseen t f = eqb-true _ _ (sym t ∙ not-false _ f)

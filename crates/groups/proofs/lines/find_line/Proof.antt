@@ -1,12 +1,14 @@
 -- `find_line` meets its contract: at the turn of a last tick the spans that end before it have been found.
-use mathlib.Core.Path.{sym, _∙_}
-use Prim.Native.Nat.{_-_, _<_}
+use mathlib.Core.Path.{sym, ap, _∙_}
+use Prim.Native.Nat.{_-_, _*_, _<_}
 use native.Mathlib.Omega.{arith}
-use lib.ListN.{length}
+use lib.ListN.{length, getD}
 use borrow.Author.Needs.{needs}
 use Rattle.sets.specs.Members.{members}
 use Rattle.records.proofs.WithinLimits.{limits-of}
-use Rattle.groups.proofs.LineLoops.{Finding, first-span, finding-start, finding-asks, place-orders, place-members, finding-next, finding-end}
+use Rattle.spans.proofs.SpanRows.{span-length}
+use Rattle.groups.proofs.Narrowing.{going-start, going-size}
+use Rattle.groups.proofs.LineLoops.{CoreAsked, bounds-meet, core-found, Finding, first-span, finding-start, finding-asks, place-orders, place-members, finding-next, finding-end}
 use Rattle.groups.proofs.lines.find_line.Statement.{statement}
 use Rattle.groups.proofs.lines.find_line.Tie as tie
 
@@ -17,16 +19,30 @@ Inv-loop words n ticks first query orders₀ cores₀ rows₀ reached₀ upper�
 abbrev μ-loop : tie.MeasureT-loop
 μ-loop words n ticks first query orders₀ cores₀ rows₀ reached₀ upper₀ last₀ orders cores rows reached upper last = ticks - last
 
--- the last tick at hand is a place of both lists
-at-orders : (i : tie.In-loop Inv-loop μ-loop) → i .before .loop .last < length (i .before .loop .orders)
+-- what is asked of the span that ends with the last tick at hand, and that this tick is a place of both lists
+abbrev Turn : Type 0
+Turn = tie.In-loop Inv-loop μ-loop
+
+asked : (i : Turn) →
+    let l = i .before .loop in
+    let a = i .before .before .before .before .before .before .args in CoreAsked (a .n) (a .ticks) (a .words .now) (members (a .query)) (a .first) (l .last) (getD (l .orders) (l .last) 0) (l .upper) (l .rows) (l .reached)
+asked i =
+    let p = i .before .before .before .before .before .before .pre in
+    finding-asks (p .0) (p .1) (p .2) (i .before .loop .inv) (i .loop-test .taken)
+
+at-orders : (i : Turn) → i .before .loop .last < length (i .before .loop .orders)
 at-orders i =
     let p = i .before .before .before .before .before .before .pre in
     place-orders (p .0) (p .1) (p .2) (i .before .loop .inv) (i .loop-test .taken)
 
-at-cores : (i : tie.In-loop Inv-loop μ-loop) → i .before .loop .last < length (i .before .loop .cores)
+at-cores : (i : Turn) → i .before .loop .last < length (i .before .loop .cores)
 at-cores i =
     let p = i .before .before .before .before .before .before .pre in
     place-members (p .0) (p .1) (p .2) (i .before .loop .inv) (i .loop-test .taken)
+
+-- no tick is large
+small : (i : Turn) → i .before .loop .last * 8 < 1000
+small i = omega (arith, i .loop-test .taken, limits-of (i .before .before .before .before .before .before .pre .0 .limits) .short)
 
 span-rows-requires : tie.Need-span-rows-requires Inv-loop μ-loop
 span-rows-requires c κs = let p = c .before .before .before .pre in first-span (p .0) (p .1)
@@ -34,23 +50,17 @@ span-rows-requires c κs = let p = c .before .before .before .pre in first-span 
 loop-holds : tie.Need-loop-holds Inv-loop μ-loop
 loop-holds c = let p = c .before .before .before .before .pre in finding-start (p .0) (p .1) (p .2) (c .span-rows .ensures) (p .3)
 
-slice-read-find-core : tie.Need-slice-read-find-core Inv-loop μ-loop
-slice-read-find-core c = at-orders (c .before)
-
-find-core-requires : tie.Need-find-core-requires Inv-loop μ-loop
-find-core-requires c κs =
-    let i = c .before in
-    let p = i .before .before .before .before .before .before .pre in
-    finding-asks (p .0) (p .1) (p .2) (i .before .loop .inv) (i .loop-test .taken)
+slice-read-lower : tie.Need-slice-read-lower Inv-loop μ-loop
+slice-read-lower c = at-orders (c .before)
 
 slice-write-orders : tie.Need-slice-write-orders Inv-loop μ-loop
-slice-write-orders c = at-orders (c .before .before .before)
+slice-write-orders c = at-orders (c .before .before)
 
 mul-cores : tie.Need-mul-cores Inv-loop μ-loop
-mul-cores c = omega (arith, at-cores (c .before .before .before), limits-of (c .before .before .before .before .before .before .before .before .before .pre .0 .limits) .short)
+mul-cores c = omega (arith, small (c .before .before))
 
 slice-write-cores : tie.Need-slice-write-cores Inv-loop μ-loop
-slice-write-cores c = at-cores (c .before .before .before)
+slice-write-cores c = at-cores (c .before .before)
 
 add-last : tie.Need-add-last Inv-loop μ-loop
 add-last c = search needs
@@ -60,10 +70,55 @@ loop-less c = search needs
 
 loop-again : tie.Need-loop-again Inv-loop μ-loop
 loop-again c =
-    let f = c .before in
-    let i = f .before .before in
+    let i = c .before .before in
     let p = i .before .before .before .before .before .before .pre in
-    finding-next (p .0) (p .1) (p .2) (i .before .loop .inv) (i .loop-test .taken) (f .find-core .ensures)
+    finding-next (p .0) (p .1) (p .2) (i .before .loop .inv) (i .loop-test .taken) (bounds-meet (asked i) (c .if1 .taken))
+
+slice-aggregate-narrow-to : tie.Need-slice-aggregate-narrow-to Inv-loop μ-loop
+slice-aggregate-narrow-to c = sym (going-size (going-start (asked (c .before .before .before) .rows-to)))
+
+narrow-to-requires : tie.Need-narrow-to-requires Inv-loop μ-loop
+narrow-to-requires c κs = let i = c .before .before .before in (asked i .span, asked i .rows-to)
+
+slice-aggregate-united : tie.Need-slice-aggregate-united Inv-loop μ-loop
+slice-aggregate-united c = sym (ap length (c .before .before .narrow-to .ensures) ∙ span-length _ _ _ _)
+
+united-requires : tie.Need-united-requires Inv-loop μ-loop
+united-requires c κs = search needs
+
+highest-core-requires : tie.Need-highest-core-requires Inv-loop μ-loop
+highest-core-requires c κs = search needs
+
+-- the turn whose span is found from its rows
+abbrev turn : tie.After-members Inv-loop μ-loop → Turn
+turn c = c .before .before .before .before .before .before .before .before .before
+
+slice-write-orders-2 : tie.Need-slice-write-orders-2 Inv-loop μ-loop
+slice-write-orders-2 c = at-orders (turn c)
+
+to-word-requires : tie.Need-to-word-requires Inv-loop μ-loop
+to-word-requires c κs = search needs
+
+mul-cores-2 : tie.Need-mul-cores-2 Inv-loop μ-loop
+mul-cores-2 c = omega (arith, small (turn (c .before)))
+
+slice-write-cores-2 : tie.Need-slice-write-cores-2 Inv-loop μ-loop
+slice-write-cores-2 c = at-cores (turn (c .before))
+
+add-last-2 : tie.Need-add-last-2 Inv-loop μ-loop
+add-last-2 c = search needs
+
+loop-less-2 : tie.Need-loop-less-2 Inv-loop μ-loop
+loop-less-2 c = search needs
+
+loop-again-2 : tie.Need-loop-again-2 Inv-loop μ-loop
+loop-again-2 c =
+    let h = c .before .before in
+    let n = h .before .before .before .before in
+    let i = turn (c .before) in
+    let p = i .before .before .before .before .before .before .pre in
+    finding-next (p .0) (p .1) (p .2) (i .before .loop .inv) (i .loop-test .taken)
+    (core-found (asked i) (n .narrow-to .ensures) (h .before .united .ensures) (h .highest-core .ensures .order) (c .to-word .ensures ∙ h .highest-core .ensures .members))
 
 same-length : tie.Need-same-length Inv-loop μ-loop
 same-length c = c .before .loop .inv .found .orders-size
@@ -82,14 +137,25 @@ find-line-spec =
     μ-loop
     span-rows-requires
     loop-holds
-    slice-read-find-core
-    find-core-requires
+    slice-read-lower
     slice-write-orders
     mul-cores
     slice-write-cores
     add-last
     loop-less
     loop-again
+    slice-aggregate-narrow-to
+    narrow-to-requires
+    slice-aggregate-united
+    united-requires
+    highest-core-requires
+    slice-write-orders-2
+    to-word-requires
+    mul-cores-2
+    slice-write-cores-2
+    add-last-2
+    loop-less-2
+    loop-again-2
     same-length
     same-length-2
     returns)

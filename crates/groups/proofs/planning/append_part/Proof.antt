@@ -43,7 +43,7 @@ returns c =
     let a = start .args in
     let few = limits-of (start .pre .0 .lent .limits) .few in
     let found = part-found (a .n) (a .words .now) (members (a .query)) (a .first) (a .last) few (r .span-rows .ensures) in
-    let e = found (h .before .full .ensures) (h .highest-core .ensures .0) (h .highest-core .ensures .1) (w .to-word .ensures ∙ s .shown .ensures) in
+    let e = found (h .before .full .ensures) (h .highest-core .ensures .order) (h .highest-core .ensures .members) (w .to-word .ensures ∙ s .shown .ensures) in
     rw e at (c .before .before .append-core .ensures)
 
 pub append-part-spec : {M : Type 1} → statement M

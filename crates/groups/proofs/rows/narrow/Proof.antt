@@ -1,48 +1,42 @@
 -- `narrow` meets its contract: after u turns the first u rows are narrowed. For the rows of a span and the words of the next tick this makes
 -- the rows of the longer span.
-use mathlib.Core.Path.{_≡_, refl}
-use Prim.Native.Nat.{_-_, _≤_, min}
+use mathlib.Core.Path.{_≡_, refl, sym, _∙_}
+use Prim.Native.Nat.{_-_, _≤_}
 use native.Mathlib.Omega.{arith}
-use lib.Bits.{bitAnd}
-use lib.ListN.{length, getD}
+use lib.ListN.{length, length-set}
 use borrow.Author.Needs.{needs}
 use Rattle.sets.specs.Sets.{intersection}
 use Rattle.sets.specs.Members.{capacity}
-use Rattle.sets.proofs.Tables.{front, front-none, front-next}
-use Rattle.groups.proofs.Narrowing.{narrow-done, narrows}
+use Rattle.groups.proofs.Narrowing.{narrowing, narrow-none, narrow-more, narrow-done, narrows}
 use Rattle.groups.proofs.rows.narrow.Statement.{statement}
 use Rattle.groups.proofs.rows.narrow.Tie as tie
 
 abbrev Inv-loop : tie.InvT-loop
-Inv-loop tick rows out₀ u₀ u-end out u =
-    (u ≤ u-end) × (u-end ≡ min capacity (length tick)) × (out ≡ front capacity (λ k. intersection (getD rows k 0) (getD tick k 0)) u)
+Inv-loop rows₀ tick u₀ u-end rows u = (u ≤ u-end) × (u-end ≡ length tick) × (length rows ≡ capacity) × (u-end ≤ capacity) × (rows ≡ narrowing rows₀ tick u)
 
 abbrev μ-loop : tie.MeasureT-loop
-μ-loop tick rows out₀ u₀ u-end out u = u-end - u
-
-row-count-requires : tie.Need-row-count-requires Inv-loop μ-loop
-row-count-requires c κs = search needs
+μ-loop rows₀ tick u₀ u-end rows u = u-end - u
 
 loop-holds : tie.Need-loop-holds Inv-loop μ-loop
-loop-holds c = (search needs, c .row-count .ensures, front-none capacity _)
+loop-holds c = (search needs, refl, c .pre .0, c .pre .1, narrow-none (c .args .rows .now) (c .args .tick .now) (c .pre .0))
 
-mul-out : tie.Need-mul-out Inv-loop μ-loop
-mul-out c = search needs
+mul-rows : tie.Need-mul-rows Inv-loop μ-loop
+mul-rows c = search needs
 
-array-read-out : tie.Need-array-read-out Inv-loop μ-loop
-array-read-out c = search needs
+slice-read-rows : tie.Need-slice-read-rows Inv-loop μ-loop
+slice-read-rows c = search needs
 
-mul-out-2 : tie.Need-mul-out-2 Inv-loop μ-loop
-mul-out-2 c = search needs
+mul-rows-2 : tie.Need-mul-rows-2 Inv-loop μ-loop
+mul-rows-2 c = search needs
 
-shared-slice-read-out : tie.Need-shared-slice-read-out Inv-loop μ-loop
-shared-slice-read-out c = search needs
+shared-slice-read-rows : tie.Need-shared-slice-read-rows Inv-loop μ-loop
+shared-slice-read-rows c = search needs
 
-mul-out-3 : tie.Need-mul-out-3 Inv-loop μ-loop
-mul-out-3 c = search needs
+mul-rows-3 : tie.Need-mul-rows-3 Inv-loop μ-loop
+mul-rows-3 c = search needs
 
-array-write-out : tie.Need-array-write-out Inv-loop μ-loop
-array-write-out c = search needs
+slice-write-rows : tie.Need-slice-write-rows Inv-loop μ-loop
+slice-write-rows c = search needs
 
 add-u : tie.Need-add-u Inv-loop μ-loop
 add-u c = search needs
@@ -53,15 +47,18 @@ loop-less c = search needs
 loop-again : tie.Need-loop-again Inv-loop μ-loop
 unfolding intersection
 loop-again c =
-    let i = c .before .before in
-    let a = i .before .before .before .args in
-    let e : bitAnd (getD (a .t1) (i .loop .u) 0) (getD (a .tick .now) (i .loop .u) 0) ≡ intersection (getD (a .t1) (i .loop .u) 0) (getD (a .tick .now) (i .loop .u) 0) = refl in
-    (search needs, search needs, front-next capacity _ (search needs) e (i .loop .inv .2))
+    let l = c .before .before .before .loop in
+    let a = c .before .before .before .before .args in
+    (search needs, refl, length-set (l .rows) (l .u) _ ∙ l .inv .2, l .inv .3, narrow-more (a .rows .now) (a .tick .now) (l .u) (omega (arith, c .before .before .loop-test .taken, l .inv .3)) (l .inv .4))
+
+same-length : tie.Need-same-length Inv-loop μ-loop
+same-length c = c .before .loop .inv .2 ∙ sym (c .before .before .pre .0)
 
 returns : tie.Need-returns Inv-loop μ-loop
 returns c =
-    let a = c .before .before .before .before .args in
-    let e = narrow-done (a .t1) (a .tick .now) (omega arith) (c .before .loop .inv .2) in
+    let l = c .before .loop in
+    let a = c .before .before .args in
+    let e = narrow-done (a .rows .now) (a .tick .now) (omega (arith, c .loop-test .left)) (l .inv .4) in
     (e, narrows e)
 
 pub narrow-spec : {M : Type 1} → statement M
@@ -70,15 +67,15 @@ narrow-spec =
     (tie.spec
     Inv-loop
     μ-loop
-    row-count-requires
     loop-holds
-    mul-out
-    array-read-out
-    mul-out-2
-    shared-slice-read-out
-    mul-out-3
-    array-write-out
+    mul-rows
+    slice-read-rows
+    mul-rows-2
+    shared-slice-read-rows
+    mul-rows-3
+    slice-write-rows
     add-u
     loop-less
     loop-again
+    same-length
     returns)

@@ -32,8 +32,11 @@ part-tick-rows-end c = omega (arith, inside c)
 tick-rows-requires : tie.Need-tick-rows-requires
 tick-rows-requires c κs = search needs
 
+slice-aggregate-narrow-to : tie.Need-slice-aggregate-narrow-to
+slice-aggregate-narrow-to c = search needs
+
 narrow-to-requires : tie.Need-narrow-to-requires
-narrow-to-requires c κs = let p = c .before .before .before .pre in (p, first-rows p (c .tick-rows .ensures))
+narrow-to-requires c κs = let t = c .before in let p = t .before .before .before .pre in (p, first-rows p (t .tick-rows .ensures))
 
 returns : tie.Need-returns
 returns c = search needs
@@ -49,5 +52,6 @@ span-rows-spec =
     part-tick-rows-start
     part-tick-rows-end
     tick-rows-requires
+    slice-aggregate-narrow-to
     narrow-to-requires
     returns)

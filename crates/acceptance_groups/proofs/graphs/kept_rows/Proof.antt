@@ -1,16 +1,16 @@
--- `graphs::induced_rows` is safe, and its rows stay 64.
+-- `graphs::kept_rows` is safe, and its rows stay 64.
 use mathlib.Core.Path.{_≡_}
 use Prim.Native.Nat.{_-_}
 use lib.ListN.{length}
 use borrow.Author.Needs.{needs}
-use Rattle.acceptance_groups.proofs.graphs.induced_rows.Statement.{statement}
-use Rattle.acceptance_groups.proofs.graphs.induced_rows.Tie as tie
+use Rattle.acceptance_groups.proofs.graphs.kept_rows.Statement.{statement}
+use Rattle.acceptance_groups.proofs.graphs.kept_rows.Tie as tie
 
 abbrev Inv-loop : tie.InvT-loop
-Inv-loop table set rows₀ u₀ rows u = 64 ≡ length rows
+Inv-loop rows set out₀ u₀ out u = 64 ≡ length out
 
 abbrev μ-loop : tie.MeasureT-loop
-μ-loop table set rows₀ u₀ rows u = 64 - u
+μ-loop rows set out₀ u₀ out u = 64 - u
 
 loop-holds : tie.Need-loop-holds Inv-loop μ-loop
 loop-holds c = search needs
@@ -18,8 +18,8 @@ loop-holds c = search needs
 slice-aggregate-set-word : tie.Need-slice-aggregate-set-word Inv-loop μ-loop
 slice-aggregate-set-word c = search needs
 
-induced-row-requires : tie.Need-induced-row-requires Inv-loop μ-loop
-induced-row-requires c κs = search needs
+kept-row-requires : tie.Need-kept-row-requires Inv-loop μ-loop
+kept-row-requires c κs = search needs
 
 set-word-requires : tie.Need-set-word-requires Inv-loop μ-loop
 set-word-requires c κs = search needs
@@ -36,15 +36,15 @@ loop-again c = search needs
 returns : tie.Need-returns Inv-loop μ-loop
 returns c = search needs
 
-pub induced-rows-spec : {M : Type 1} → statement M
-induced-rows-spec =
+pub kept-rows-spec : {M : Type 1} → statement M
+kept-rows-spec =
     tie.close
     (tie.spec
     Inv-loop
     μ-loop
     loop-holds
     slice-aggregate-set-word
-    induced-row-requires
+    kept-row-requires
     set-word-requires
     add-u
     loop-less
