@@ -1,20 +1,15 @@
 // The second judge of tidy and write, written from document 01: what each answers, and what it leaves in the slices that it is lent.
-ghost use Prim.Native.Nat.{_<_, _≤_};
 use crate::answer::Answer;
 use crate::judge_logs::judge_read;
 use crate::judge_words::judge_words;
-use crate::runs::fill_table;
 use crate::runs::put_tidy;
 use crate::words::fill_expected;
 
-// Puts the tidy log of a table of contacts into a buffer that has room for it, and gives the answer. The log is first put nowhere, to count
-// its contacts. More than 8,000 are refused by a number of the call's own.
-fn put_answer(table: &[u8], n: usize, ticks: usize, too_many: usize, buffer: &mut [u8]) -> Answer
-    requires { ⌜ n ≤ 64 ⌝ }
-    requires { ⌜ ticks ≤ 96 ⌝ }
-{
+// Puts the tidy log of a day's words into a buffer that has room for it, and gives the answer. The log is first put nowhere, to count its
+// contacts. More than 8,000 are refused by a number of the call's own.
+fn deliver(words: &[u64], n: usize, ticks: usize, too_many: usize, buffer: &mut [u8]) -> Answer {
     let mut nowhere = [0u8; 0];
-    let contacts = put_tidy(&mut nowhere, table, n, ticks);
+    let contacts = put_tidy(&mut nowhere, words, n, ticks);
     if 8000 < contacts {
         return Answer::refused(too_many, 0);
     }
@@ -22,27 +17,8 @@ fn put_answer(table: &[u8], n: usize, ticks: usize, too_many: usize, buffer: &mu
     if buffer.len() < len {
         return Answer::refused(9, 0);
     }
-    put_tidy(buffer, table, n, ticks);
+    put_tidy(buffer, words, n, ticks);
     Answer::wrote(len)
-}
-
-// The same of a day's words, by way of its table.
-fn from_words(words: &[u64], n: usize, ticks: usize, too_many: usize, buffer: &mut [u8]) -> Answer
-    requires { ⌜ 0 < n ⌝ }
-    requires { ⌜ n ≤ 64 ⌝ }
-    requires { ⌜ ticks ≤ 96 ⌝ }
-{
-    let mut table = [0u8; 393216];
-    fill_table(&mut table, words, n, ticks);
-    put_answer(&table, n, ticks, too_many, buffer)
-}
-
-// The same, at an n and T of any size.
-fn deliver(words: &[u64], n: usize, ticks: usize, too_many: usize, buffer: &mut [u8]) -> Answer {
-    if n < 1 || 64 < n || 96 < ticks {
-        return Answer::refused(10, 0);
-    }
-    from_words(words, n, ticks, too_many, buffer)
 }
 
 // Tidy: the log, 8, 16, 9. The words are left as read leaves them, also where 16 or 9 refuse.

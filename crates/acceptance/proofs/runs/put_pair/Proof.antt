@@ -7,22 +7,16 @@ use Rattle.acceptance.proofs.runs.put_pair.Statement.{statement}
 use Rattle.acceptance.proofs.runs.put_pair.Tie as tie
 
 abbrev Inv-loop : tie.InvT-loop
-Inv-loop log₀ table n ticks pair k v so-far₀ t₀ log so-far t = (so-far ≤ 8001) × (length log ≡ length log₀)
+Inv-loop log₀ words n ticks pair k v so-far₀ t₀ log so-far t = (so-far ≤ 8001) × (length log ≡ length log₀)
 
 abbrev μ-loop : tie.MeasureT-loop
-μ-loop log₀ table n ticks pair k v so-far₀ t₀ log so-far t = ticks - t
+μ-loop log₀ words n ticks pair k v so-far₀ t₀ log so-far t = ticks - t
 
 returns : tie.Need-returns Inv-loop μ-loop
 returns c = search needs
 
 loop-holds : tie.Need-loop-holds Inv-loop μ-loop
 loop-holds c = search needs
-
-mul-put-run : tie.Need-mul-put-run Inv-loop μ-loop
-mul-put-run c = search needs
-
-add-put-run : tie.Need-add-put-run Inv-loop μ-loop
-add-put-run c = search needs
 
 put-run-requires : tie.Need-put-run-requires Inv-loop μ-loop
 put-run-requires c κs = search needs
@@ -50,8 +44,6 @@ put-pair-spec =
     μ-loop
     returns
     loop-holds
-    mul-put-run
-    add-put-run
     put-run-requires
     add-t
     loop-less

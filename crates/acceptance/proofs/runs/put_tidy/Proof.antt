@@ -7,16 +7,13 @@ use Rattle.acceptance.proofs.runs.put_tidy.Statement.{statement}
 use Rattle.acceptance.proofs.runs.put_tidy.Tie as tie
 
 abbrev Inv-loop : tie.InvT-loop
-Inv-loop log₀ table n ticks k₀ pair₀ pair-end log k pair = (k ≤ 8001) × (length log ≡ length log₀)
+Inv-loop log₀ words n ticks k₀ pair₀ log k pair = (k ≤ 8001) × (length log ≡ length log₀)
 
 abbrev μ-loop : tie.MeasureT-loop
-μ-loop log₀ table n ticks k₀ pair₀ pair-end log k pair = pair-end - pair
+μ-loop log₀ words n ticks k₀ pair₀ log k pair = 4096 - pair
 
 put-header-requires : tie.Need-put-header-requires Inv-loop μ-loop
 put-header-requires c κs = search needs
-
-mul-pair-end : tie.Need-mul-pair-end Inv-loop μ-loop
-mul-pair-end c = search needs
 
 loop-holds : tie.Need-loop-holds Inv-loop μ-loop
 loop-holds c = search needs
@@ -49,7 +46,6 @@ put-tidy-spec =
     Inv-loop
     μ-loop
     put-header-requires
-    mul-pair-end
     loop-holds
     put-pair-requires
     add-pair
