@@ -3,8 +3,10 @@ mod random;
 mod slices;
 mod tally;
 
+pub use random::Drawn;
 pub use random::SEED;
 pub use random::draw;
+pub use random::draw_from;
 pub use slices::FILLER;
 pub use slices::byte_at;
 pub use slices::same_bytes;

@@ -15,16 +15,36 @@ fn next(x: u64) -> u64
     b ^ (b << 17)
 }
 
+// A number that was drawn, and the number of the sequence that it came from, where the next draw goes on.
+pub struct Drawn {
+    pub number: usize,
+    pub state: u64,
+}
+
 // The next number of the sequence, below a bound; 0 where the bound is 0.
+pub fn draw_from(state: u64, bound: usize) -> Drawn
+    ensures number { λ r. ⌜ r .number ≡ below bound (xorshift state) ⌝ }
+    ensures within { λ r. ⌜ r .number ≤ bound - 1 ⌝ }
+    ensures leaves { λ r. ⌜ r .state ≡ xorshift state ⌝ }
+{
+    let x = next(state);
+    if bound == 0 {
+        return Drawn {
+            number: 0,
+            state: x,
+        };
+    }
+    let number = (x >> 16) as usize % bound;
+    Drawn { number, state: x }
+}
+
+// The same, from a state that goes on.
 pub fn draw(state: &mut u64, bound: usize) -> usize
     ensures number { λ r. ⌜ r ≡ below bound (xorshift (now (state .entry))) ⌝ }
     ensures within { λ r. ⌜ r ≤ bound - 1 ⌝ }
     ensures leaves { λ _. ⌜ now (state .exit) ≡ xorshift (now (state .entry)) ⌝ }
 {
-    let x = next(*state);
-    *state = x;
-    if bound == 0 {
-        return 0;
-    }
-    (x >> 16) as usize % bound
+    let d = draw_from(*state, bound);
+    *state = d.state;
+    d.number
 }
