@@ -1,4 +1,5 @@
 // Cases of the check of words: days, days that one bit breaks, sizes outside the limits, and too few words.
+ghost use Prim.Native.Nat.{_<_};
 use crate::answer;
 use crate::answer::Answer;
 use crate::bytes::first_bytes;
@@ -89,24 +90,22 @@ pub(crate) fn broken() -> Tally {
     with_word(t, 13, 0x8000_0000_0000_0000, 0)
 }
 
-// Each bit of word i turned over: within D1's twelve words that breaks the day, after them it does not.
-fn turn_bits(tally: Tally, i: usize, number: usize) -> Tally {
-    let d1 = WORDS;
-    let word = word_at(&d1, i);
-    let mut t = tally;
-    for v in 0..64usize {
-        t = with_word(t, i, word ^ (1 << v), number);
-    }
-    t
+// Bit v of word i turned over: within D1's twelve words that breaks the day, after them it does not.
+fn turn_bit(tally: Tally, i: usize, v: usize) -> Tally
+    requires { ⌜ v < 64 ⌝ }
+{
+    let number = if i < 12 { 11 } else { 0 };
+    let words = WORDS;
+    with_word(tally, i, word_at(&words, i) ^ (1 << v), number)
 }
 
 // Each bit of all fourteen words turned over.
 pub(crate) fn turned_bits() -> Tally {
     let mut t = Tally::none();
-    for i in 0..12 {
-        t = turn_bits(t, i, 11);
+    for bit in 0..896usize {
+        t = turn_bit(t, bit / 64, bit % 64);
     }
-    turn_bits(turn_bits(t, 12, 0), 13, 0)
+    t
 }
 
 // The largest day: without a contact, with one in its last tick, with its mirror missing, and with a word too few.

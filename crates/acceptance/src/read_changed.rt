@@ -1,9 +1,9 @@
 // D1's log cut short at every length, and with every byte changed.
+ghost use Prim.Native.Nat.{_<_};
 use crate::bytes::first_bytes;
 use crate::d1::TIDY;
 use crate::read_cases::judged;
 use trials::Tally;
-use trials::byte_at;
 use trials::set_byte;
 
 // Each prefix of a log, from no byte to all of them.
@@ -41,25 +41,21 @@ const VALUES: [usize; 17] = [
     255,
 ];
 
-// A log with byte i set to each of those values in turn; then the byte is put back. A change can make the day larger.
-fn change_byte(tally: Tally, log: &mut [u8], i: usize) -> Tally {
+// D1's tidy log with byte i set to the value at a place of those. A change can make the day larger.
+fn with_byte(tally: Tally, i: usize, place: usize) -> Tally
+    requires { ⌜ place < 17 ⌝ }
+{
     let values = VALUES;
-    let kept = byte_at(log, i);
-    let mut t = tally;
-    for j in 0..17 {
-        set_byte(log, i, values[j]);
-        t = judged(t, log, 400);
-    }
-    set_byte(log, i, kept);
-    t
+    let mut log = TIDY;
+    set_byte(&mut log, i, values[place]);
+    judged(tally, &log, 400)
 }
 
-// D1's tidy log with each byte changed.
+// D1's tidy log with each byte set to each of the values.
 pub(crate) fn changed_bytes() -> Tally {
-    let mut log = TIDY;
     let mut t = Tally::none();
-    for i in 0..34 {
-        t = change_byte(t, &mut log, i);
+    for change in 0..578usize {
+        t = with_byte(t, change / 17, change % 17);
     }
     t
 }

@@ -11,8 +11,8 @@ use crate::read_cases::by_hand;
 use trials::SEED;
 use trials::Tally;
 
-// A log of n badges and T ticks with so many contacts, some of them the same, and their count.
-pub(crate) fn long_log(log: &mut [u8], n: usize, ticks: usize, contacts: usize)
+// Puts a log of n badges and T ticks with so many contacts, some of them the same, and their count.
+fn put_long(log: &mut [u8], n: usize, ticks: usize, contacts: usize)
     requires { ⌜ 0 < n ⌝ }
     requires { ⌜ 0 < ticks ⌝ }
     requires { ⌜ contacts ≤ 8001 ⌝ }
@@ -22,6 +22,22 @@ pub(crate) fn long_log(log: &mut [u8], n: usize, ticks: usize, contacts: usize)
         put_contact(log, k, k % n, (k + 1) % n, k % ticks, ticks - 1);
     }
     put_end(log, contacts, contacts);
+}
+
+// Room for the longest log, and for bytes after it.
+pub(crate) fn empty_log() -> [u8; 48100] {
+    [0; 48100]
+}
+
+// That log in its room.
+pub(crate) fn long_log(n: usize, ticks: usize, contacts: usize) -> [u8; 48100]
+    requires { ⌜ 0 < n ⌝ }
+    requires { ⌜ 0 < ticks ⌝ }
+    requires { ⌜ contacts ≤ 8001 ⌝ }
+{
+    let mut log = empty_log();
+    put_long(&mut log, n, ticks, contacts);
+    log
 }
 
 // The first bytes of a log are refused, though more words are lent than its day has.
@@ -47,17 +63,26 @@ fn cuts_at_limit(t: Tally, log: &[u8]) -> Tally {
     refuses(t, log, 48100, 7, 48010)
 }
 
+// 8,000 contacts with another count.
+fn miscounted(tally: Tally, count: usize) -> Tally {
+    let mut log = long_log(4, 3, 8000);
+    put_end(&mut log, 8000, count);
+    refuses(tally, &log, 48010, 6, 48004)
+}
+
+// 8,000 contacts with another count, and a bad contact as the last of them.
+fn bad_last(tally: Tally) -> Tally {
+    let mut log = long_log(4, 3, 8000);
+    put_end(&mut log, 8000, 8000 + 65536);
+    put_contact(&mut log, 7999, 1, 1, 0, 0);
+    refuses(tally, &log, 48010, 4, 47998)
+}
+
 // 8,000 contacts; then with other counts; then with a bad contact as the last of them.
 fn at_limit(tally: Tally) -> Tally {
-    let mut log = [0u8; 48100];
-    long_log(&mut log, 4, 3, 8000);
+    let log = long_log(4, 3, 8000);
     let t = cuts_at_limit(tally, &log);
-    put_end(&mut log, 8000, 7999);
-    let t = refuses(t, &log, 48010, 6, 48004);
-    put_end(&mut log, 8000, 8000 + 65536);
-    let t = refuses(t, &log, 48010, 6, 48004);
-    put_contact(&mut log, 7999, 1, 1, 0, 0);
-    refuses(t, &log, 48010, 4, 47998)
+    bad_last(miscounted(miscounted(t, 7999), 8000 + 65536))
 }
 
 // 8,001 contacts: refused as soon as the mark of the last is there.
@@ -70,53 +95,77 @@ fn cuts_over_limit(t: Tally, log: &[u8]) -> Tally {
     by_hand(t, log, 0, Answer::refused(5, 48004))
 }
 
-// 8,001 contacts; then with a bad one as the last; then with a bad one before it.
-fn over_limit(tally: Tally) -> Tally {
-    let mut log = [0u8; 48100];
-    long_log(&mut log, 4, 3, 8001);
-    let t = cuts_over_limit(tally, &log);
+// 8,001 contacts, of which the last is bad, and contact k, too.
+fn bad_over_limit(tally: Tally, k: usize, number: usize, offset: usize) -> Tally
+    requires { ⌜ k ≤ 8001 ⌝ }
+{
+    let mut log = long_log(4, 3, 8001);
     put_contact(&mut log, 8000, 1, 1, 9, 0);
-    let t = refuses(t, &log, 48016, 5, 48004);
-    put_contact(&mut log, 7999, 1, 1, 9, 0);
-    refuses(t, &log, 48016, 4, 47998)
+    put_contact(&mut log, k, 1, 1, 9, 0);
+    refuses(tally, &log, 48016, number, offset)
 }
 
-// Puts the contacts of badge a with each lower badge, through all 96 ticks, as records k and up. Gives the record after them.
-fn put_lower(log: &mut [u8], k: usize, a: usize) -> usize
-    requires { ⌜ a < 64 ⌝ }
-    requires { ⌜ k ≤ 4096 ⌝ }
-    ensures { λ r. ⌜ r ≡ k + a ⌝ }
+// 8,001 contacts; then with a bad one as the last; then with a bad one before it.
+fn over_limit(tally: Tally) -> Tally {
+    let log = long_log(4, 3, 8001);
+    let t = cuts_over_limit(tally, &log);
+    bad_over_limit(bad_over_limit(t, 8000, 5, 48004), 7999, 4, 47998)
+}
+
+// Puts the contact of badge a with a lower one through all 96 ticks as record k, and gives the record after it. With one that is not lower
+// there is none.
+fn put_lower(log: &mut [u8], k: usize, a: usize, b: usize) -> usize
+    requires { ⌜ k ≤ 8001 ⌝ }
+    ensures { λ r. ⌜ r ≤ k + 1 ⌝ }
 {
-    for b in 0..a {
-        put_contact(log, k + b, a, b, 0, 95);
+    if a <= b {
+        return k;
     }
-    k + a
+    put_contact(log, k, a, b, 0, 95);
+    k + 1
 }
 
 // A log of 64 badges and 96 ticks, with every two badges in contact all day.
-pub(crate) fn put_full(log: &mut [u8]) {
+fn put_full(log: &mut [u8]) {
     put_header(log, 64, 96);
     let mut k = 0;
-    for a in 0..64 {
-        k = put_lower(log, k, a);
+    for pair in 0..4096 {
+        k = put_lower(log, k, pair / 64, pair % 64);
     }
     put_end(log, k, k);
 }
 
-// That log has 2,016 contacts and 12,106 bytes.
-fn full_day(tally: Tally) -> Tally {
+// That log, which has 2,016 contacts and 12,106 bytes.
+pub(crate) fn full_log() -> [u8; 12106] {
     let mut log = [0u8; 12106];
     put_full(&mut log);
+    log
+}
+
+// It is read whole, and lent a word too few it is refused.
+fn full_day(tally: Tally) -> Tally {
+    let log = full_log();
     let t = by_hand(tally, &log, 6200, Answer::accepted(64, 96, 2016));
     by_hand(t, &log, 6143, Answer::refused(8, 0))
 }
 
-// 64 badges and 96 ticks, with 8,000 random contacts.
-fn random_day(tally: Tally) -> Tally {
+// A log of 64 badges and so many ticks, with 8,000 random contacts, in 48,010 bytes.
+pub(crate) fn random_log(ticks: usize) -> [u8; 48100] {
     let mut state = SEED;
-    let mut log = [0u8; 48010];
-    put_log(&mut log, 64, 96, 8000, &mut state);
-    by_hand(tally, &log, 6200, Answer::accepted(64, 96, 8000))
+    let mut log = empty_log();
+    put_log(&mut log, 64, ticks, 8000, &mut state);
+    log
+}
+
+// Of 96 ticks.
+fn random_day(tally: Tally) -> Tally {
+    let log = random_log(96);
+    by_hand(
+        tally,
+        first_bytes(&log, 48010),
+        6200,
+        Answer::accepted(64, 96, 8000),
+    )
 }
 
 // All of them.

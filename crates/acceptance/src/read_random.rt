@@ -4,54 +4,103 @@ use crate::bytes::first_bytes;
 use crate::random_logs::put_small;
 use crate::read_cases::judged;
 use crate::words::words_for;
+use trials::Drawn;
 use trials::SEED;
 use trials::Tally;
 use trials::byte_at;
-use trials::draw;
+use trials::draw_from;
 use trials::set_byte;
 
-// Damages one log in three: it is cut, or gets a byte more, or has a byte changed. Gives its length.
-fn damage(log: &mut [u8], len: usize, state: &mut u64) -> usize
-    requires { ⌜ (10 ≤ len) × (len ≤ 250) ⌝ }
-    ensures { λ r. ⌜ r ≤ 251 ⌝ }
-{
-    let kind = draw(state, 12);
-    if kind == 0 {
-        return draw(state, len);
-    }
-    if kind == 1 {
-        set_byte(log, len, draw(state, 256));
-        return len + 1;
-    }
-    if kind == 2 {
-        set_byte(log, draw(state, len), draw(state, 256));
-        return len;
-    }
-    if kind == 3 {
-        set_byte(log, draw(state, len), draw(state, 8));
-        return len;
-    }
-    len
+// What becomes of a log of 256 bytes at most: a byte that is set, none where its position is 256, and the log's length then.
+struct Damage {
+    at: usize,
+    value: usize,
+    len: usize,
+    state: u64,
 }
 
-// How many words to lend for the n and T that a log begins with: enough, but for one time in ten.
-fn lent_for(log: &[u8], state: &mut u64) -> usize
-    ensures { λ r. ⌜ r ≤ 6200 ⌝ }
-{
-    let count = words_for(byte_at(log, 2), byte_at(log, 3));
-    if draw(state, 10) == 0 {
-        return draw(state, count + 1);
+// One of so many bytes is set to a value below a bound.
+fn change(len: usize, bound: usize, state: u64) -> Damage {
+    let at = draw_from(state, len);
+    let value = draw_from(at.state, bound);
+    Damage {
+        at: at.number,
+        value: value.number,
+        len,
+        state: value.state,
     }
-    count + draw(state, 20)
+}
+
+// The log is left with some length.
+fn cut(len: usize, state: u64) -> Damage {
+    Damage {
+        at: 256,
+        value: 0,
+        len,
+        state,
+    }
+}
+
+// The log gets a byte more.
+fn longer(len: usize, state: u64) -> Damage
+    requires { ⌜ len ≤ 250 ⌝ }
+{
+    let value = draw_from(state, 256);
+    Damage {
+        at: len,
+        value: value.number,
+        len: len + 1,
+        state: value.state,
+    }
+}
+
+// Damages one log in three: it is cut, or gets a byte more, or has a byte changed.
+fn draw_damage(len: usize, state: u64) -> Damage
+    requires { ⌜ len ≤ 250 ⌝ }
+{
+    let kind = draw_from(state, 12);
+    if kind.number == 0 {
+        let short = draw_from(kind.state, len);
+        return cut(short.number, short.state);
+    }
+    if kind.number == 1 {
+        return longer(len, kind.state);
+    }
+    if kind.number == 2 {
+        return change(len, 256, kind.state);
+    }
+    if kind.number == 3 {
+        return change(len, 8, kind.state);
+    }
+    cut(len, kind.state)
+}
+
+// How many words to lend for n badges and T ticks: enough, but for one time in ten.
+fn lent_for(n: usize, ticks: usize, state: u64) -> Drawn
+    ensures { λ r. ⌜ r .number ≤ 6200 ⌝ }
+{
+    let count = words_for(n, ticks);
+    let tenth = draw_from(state, 10);
+    if tenth.number == 0 {
+        return draw_from(tenth.state, count + 1);
+    }
+    let more = draw_from(tenth.state, 20);
+    Drawn {
+        number: count + more.number,
+        state: more.state,
+    }
 }
 
 // A random log, perhaps damaged, lent mostly enough words.
 fn random_case(tally: Tally, state: &mut u64) -> Tally {
     let mut log = [0u8; 256];
-    let whole = put_small(&mut log, state);
-    let len = damage(&mut log, whole, state);
-    let lent = lent_for(&log, state);
-    judged(tally, first_bytes(&log, len), lent)
+    let len = put_small(&mut log, state);
+    let damage = draw_damage(len, *state);
+    set_byte(&mut log, damage.at, damage.value);
+    let bytes: &[u8] = &log;
+    let lent = lent_for(byte_at(bytes, 2), byte_at(bytes, 3), damage.state);
+    *state = lent.state;
+    judged(tally, first_bytes(bytes, damage.len), lent.number)
 }
 
 // 2,000 random logs.

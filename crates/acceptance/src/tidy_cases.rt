@@ -1,4 +1,6 @@
 // A case of tidy: the answer, every work word and every byte of the buffer.
+ghost use mathlib.Core.Path.{_≡_};
+ghost use lib.ListN.{length};
 use crate::answer;
 use crate::answer::Answer;
 use crate::answer::DIFFERENT;
@@ -9,6 +11,13 @@ use trials::FILLER;
 use trials::Tally;
 use trials::same_bytes;
 use trials::same_words;
+
+// A buffer of more bytes than any log has, as it is before a call.
+pub(crate) fn filled() -> [u8; 48100]
+    ensures { λ r. ⌜ 48100 ≡ length r ⌝ }
+{
+    [FILLER; 48100]
+}
 
 // What tidy answers to a log, if the second judge gives the same answer, and both leave the same words and bytes. Otherwise a refusal by a
 // number that no call gives.
@@ -30,9 +39,9 @@ fn compared(
 // The same, with so many words and bytes lent. More than there are is a mistake of the case's own, and counts as different.
 pub(crate) fn agreed(log: &[u8], lent: usize, room: usize) -> Answer {
     let mut work = [0u64; 6200];
-    let mut buffer = [FILLER; 48100];
+    let mut buffer = filled();
     let mut wanted_work = [0u64; 6200];
-    let mut wanted = [FILLER; 48100];
+    let mut wanted = filled();
     if 6200 < lent {
         return Answer::refused(DIFFERENT, 0);
     }
@@ -62,7 +71,7 @@ pub(crate) fn by_hand(
 // Whether tidy makes exactly these bytes of a log.
 pub(crate) fn tidies_to(log: &[u8], wanted: &[u8]) -> bool {
     let mut work = [0u64; 6200];
-    let mut buffer = [FILLER; 48100];
+    let mut buffer = filled();
     let got = answer::tidy(log, &mut work, &mut buffer);
     got.bytes == wanted.len() && same_bytes(first_bytes(&buffer, got.bytes), wanted)
 }
@@ -72,7 +81,7 @@ pub(crate) fn tidies_to(log: &[u8], wanted: &[u8]) -> bool {
 pub(crate) fn settles(log: &[u8]) -> bool {
     let mut words = [0u64; 6200];
     let mut again = [0u64; 6200];
-    let mut buffer = [FILLER; 48100];
+    let mut buffer = filled();
     let len = judge_tidy(log, &mut words, &mut buffer).bytes;
     let tidied = first_bytes(&buffer, len);
     let got = answer::read(tidied, &mut again);

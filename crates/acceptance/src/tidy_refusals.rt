@@ -1,10 +1,11 @@
 // Refusals of tidy and write, by numbers and offsets that are written by hand: what was lent is left as it was, but for the work words
 // that tidy leaves when 9 refuses it.
 use crate::answer::Answer;
+use crate::bytes::first_bytes;
 use crate::d1::MESSY;
 use crate::d1::TIDY;
 use crate::d1::WORDS;
-use crate::random_days::fill_runs;
+use crate::random_days::day_of;
 use crate::read_many::long_log;
 use crate::refused_logs;
 use crate::tidy_cases;
@@ -15,9 +16,14 @@ use trials::set_word;
 
 // 5: a log with a contact more than 8,000.
 fn too_many_contacts(t: Tally) -> Tally {
-    let mut long = [0u8; 48016];
-    long_log(&mut long, 4, 3, 8001);
-    tidy_cases::by_hand(t, &long, 40, 60, Answer::refused(5, 48004))
+    let long = long_log(4, 3, 8001);
+    tidy_cases::by_hand(
+        t,
+        first_bytes(&long, 48016),
+        40,
+        60,
+        Answer::refused(5, 48004),
+    )
 }
 
 // 8: fewer than n×T words are lent. It comes before 9.
@@ -109,8 +115,7 @@ fn wrong_sizes(t: Tally, words: &[u64]) -> Tally {
 
 // Words of 64 badges and 96 ticks with 8,001 runs: a day, which 15 refuses, and then, with one word changed, none.
 fn many_runs(t: Tally) -> Tally {
-    let mut words = [0u64; 6144];
-    fill_runs(&mut words, 8001);
+    let mut words = day_of(8001);
     let t = write_refuses(t, &words, 6144, 64, 96, 0, 15);
     set_word(&mut words, 6143, 1);
     wrong_sizes(broken_runs(t, &words), &words)

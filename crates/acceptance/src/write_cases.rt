@@ -3,7 +3,7 @@ use crate::answer;
 use crate::answer::Answer;
 use crate::answer::DIFFERENT;
 use crate::judge_tidy::judge_write;
-use trials::FILLER;
+use crate::tidy_cases::filled;
 use trials::Tally;
 use trials::same_bytes;
 
@@ -20,8 +20,8 @@ fn compared(words: &[u64], n: usize, ticks: usize, buffer: &mut [u8], wanted: &m
 
 // The same, with so many bytes lent. More than there are is a mistake of the case's own, and counts as different.
 pub(crate) fn agreed(words: &[u64], n: usize, ticks: usize, room: usize) -> Answer {
-    let mut buffer = [FILLER; 48100];
-    let mut wanted = [FILLER; 48100];
+    let mut buffer = filled();
+    let mut wanted = filled();
     if 48100 < room {
         return Answer::refused(DIFFERENT, 0);
     }

@@ -7,10 +7,10 @@ use Rattle.acceptance.proofs.random_logs.put_log.Statement.{statement}
 use Rattle.acceptance.proofs.random_logs.put_log.Tie as tie
 
 abbrev Inv-loop : tie.InvT-loop
-Inv-loop log₀ n ticks contacts state₀ k₀ log state k = length log ≡ length log₀
+Inv-loop log₀ n ticks contacts state c₀ k₀ log c k = length log ≡ length log₀
 
 abbrev μ-loop : tie.MeasureT-loop
-μ-loop log₀ n ticks contacts state₀ k₀ log state k = contacts - k
+μ-loop log₀ n ticks contacts state c₀ k₀ log c k = contacts - k
 
 put-header-requires : tie.Need-put-header-requires Inv-loop μ-loop
 put-header-requires c κs = search needs
@@ -18,8 +18,11 @@ put-header-requires c κs = search needs
 loop-holds : tie.Need-loop-holds Inv-loop μ-loop
 loop-holds c = search needs
 
-put-next-requires : tie.Need-put-next-requires Inv-loop μ-loop
-put-next-requires c κs = search needs
+next-contact-requires : tie.Need-next-contact-requires Inv-loop μ-loop
+next-contact-requires c κs = search needs
+
+put-contact-requires : tie.Need-put-contact-requires Inv-loop μ-loop
+put-contact-requires c κs = search needs
 
 add-k : tie.Need-add-k Inv-loop μ-loop
 add-k c = search needs
@@ -47,7 +50,8 @@ put-log-spec =
     μ-loop
     put-header-requires
     loop-holds
-    put-next-requires
+    next-contact-requires
+    put-contact-requires
     add-k
     loop-less
     loop-again

@@ -1,16 +1,14 @@
--- `read_changed::changed_bytes` is safe, and the log keeps its length.
-use mathlib.Core.Path.{_≡_}
+-- `read_changed::changed_bytes` is safe.
 use Prim.Native.Nat.{_-_}
-use lib.ListN.{length}
 use borrow.Author.Needs.{needs}
 use Rattle.acceptance.proofs.read_changed.changed_bytes.Statement.{statement}
 use Rattle.acceptance.proofs.read_changed.changed_bytes.Tie as tie
 
 abbrev Inv-loop : tie.InvT-loop
-Inv-loop log₀ t₀ i₀ log t i = length log ≡ 34
+Inv-loop t₀ change₀ t change = Unit
 
 abbrev μ-loop : tie.MeasureT-loop
-μ-loop log₀ t₀ i₀ log t i = 34 - i
+μ-loop t₀ change₀ t change = 578 - change
 
 none-requires : tie.Need-none-requires Inv-loop μ-loop
 none-requires c κs = search needs
@@ -18,14 +16,11 @@ none-requires c κs = search needs
 loop-holds : tie.Need-loop-holds Inv-loop μ-loop
 loop-holds c = search needs
 
-slice-aggregate-change-byte : tie.Need-slice-aggregate-change-byte Inv-loop μ-loop
-slice-aggregate-change-byte c = search needs
+with-byte-requires : tie.Need-with-byte-requires Inv-loop μ-loop
+with-byte-requires c κs = search needs
 
-change-byte-requires : tie.Need-change-byte-requires Inv-loop μ-loop
-change-byte-requires c κs = search needs
-
-add-i : tie.Need-add-i Inv-loop μ-loop
-add-i c = search needs
+add-change : tie.Need-add-change Inv-loop μ-loop
+add-change c = search needs
 
 loop-less : tie.Need-loop-less Inv-loop μ-loop
 loop-less c = search needs
@@ -44,9 +39,8 @@ changed-bytes-spec =
     μ-loop
     none-requires
     loop-holds
-    slice-aggregate-change-byte
-    change-byte-requires
-    add-i
+    with-byte-requires
+    add-change
     loop-less
     loop-again
     returns)

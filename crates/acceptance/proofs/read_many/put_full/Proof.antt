@@ -1,16 +1,16 @@
 -- `read_many::put_full` is safe, and the log keeps its length.
 use mathlib.Core.Path.{_≡_}
-use Prim.Native.Nat.{_≤_, _*_, _-_}
+use Prim.Native.Nat.{_≤_, _-_}
 use lib.ListN.{length}
 use borrow.Author.Needs.{needs}
 use Rattle.acceptance.proofs.read_many.put_full.Statement.{statement}
 use Rattle.acceptance.proofs.read_many.put_full.Tie as tie
 
 abbrev Inv-loop : tie.InvT-loop
-Inv-loop log₀ k₀ a₀ log k a = (length log ≡ length log₀) × (k ≤ 64 * a) × (a ≤ 64)
+Inv-loop log₀ k₀ pair₀ log k pair = (length log ≡ length log₀) × (k ≤ pair) × (pair ≤ 4096)
 
 abbrev μ-loop : tie.MeasureT-loop
-μ-loop log₀ k₀ a₀ log k a = 64 - a
+μ-loop log₀ k₀ pair₀ log k pair = 4096 - pair
 
 put-header-requires : tie.Need-put-header-requires Inv-loop μ-loop
 put-header-requires c κs = search needs
@@ -21,8 +21,8 @@ loop-holds c = search needs
 put-lower-requires : tie.Need-put-lower-requires Inv-loop μ-loop
 put-lower-requires c κs = search needs
 
-add-a : tie.Need-add-a Inv-loop μ-loop
-add-a c = search needs
+add-pair : tie.Need-add-pair Inv-loop μ-loop
+add-pair c = search needs
 
 loop-less : tie.Need-loop-less Inv-loop μ-loop
 loop-less c = search needs
@@ -48,7 +48,7 @@ put-full-spec =
     put-header-requires
     loop-holds
     put-lower-requires
-    add-a
+    add-pair
     loop-less
     loop-again
     put-end-requires

@@ -5,10 +5,10 @@ use Rattle.acceptance.proofs.tidy_random.days.Statement.{statement}
 use Rattle.acceptance.proofs.tidy_random.days.Tie as tie
 
 abbrev Inv-loop : tie.InvT-loop
-Inv-loop state₀ t₀ counter₀ state t counter = Unit
+Inv-loop judged₀ counter₀ judged counter = Unit
 
 abbrev μ-loop : tie.MeasureT-loop
-μ-loop state₀ t₀ counter₀ state t counter = 100 - counter
+μ-loop judged₀ counter₀ judged counter = 100 - counter
 
 none-requires : tie.Need-none-requires Inv-loop μ-loop
 none-requires c κs = search needs

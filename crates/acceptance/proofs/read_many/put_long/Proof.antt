@@ -1,10 +1,10 @@
--- `read_many::long_log` is safe, and the log keeps its length.
+-- `read_many::put_long` is safe, and the log keeps its length.
 use mathlib.Core.Path.{_≡_}
 use Prim.Native.Nat.{_-_}
 use lib.ListN.{length}
 use borrow.Author.Needs.{needs}
-use Rattle.acceptance.proofs.read_many.long_log.Statement.{statement}
-use Rattle.acceptance.proofs.read_many.long_log.Tie as tie
+use Rattle.acceptance.proofs.read_many.put_long.Statement.{statement}
+use Rattle.acceptance.proofs.read_many.put_long.Tie as tie
 
 abbrev Inv-loop : tie.InvT-loop
 Inv-loop log₀ n ticks contacts k₀ log k = length log ≡ length log₀
@@ -54,8 +54,8 @@ same-length c = search needs
 returns : tie.Need-returns Inv-loop μ-loop
 returns c = search needs
 
-pub long-log-spec : {M : Type 1} → statement M
-long-log-spec =
+pub put-long-spec : {M : Type 1} → statement M
+put-long-spec =
     tie.close
     (tie.spec
     Inv-loop
