@@ -6,6 +6,8 @@ use crate::listing::Listing;
 use crate::listing::listing_of;
 use crate::pieces::whole_text;
 use crate::preparing::PATTERN;
+use crate::preparing::all_bytes;
+use crate::preparing::all_words;
 use crate::preparing::answers;
 use crate::preparing::prepare;
 use crate::reports::put_report;
@@ -56,8 +58,8 @@ pub(crate) fn by_hand_lent(
     room: usize,
     wanted: &[u8],
 ) -> Tally {
-    let mut words = [PATTERN; 6144];
-    let mut report = [FILLER; 60538];
+    let mut words = all_words();
+    let mut report = all_bytes();
     let answer = prepare(log, &mut words, &mut report, lent, room);
     let mut buffer = [FILLER; 400];
     let mut expected = [FILLER; 400];

@@ -1,10 +1,11 @@
 // D1's logs cut short at every length, and with every byte changed.
+ghost use Prim.Native.Nat.{_<_};
 use crate::cases::judged;
 use crate::d1::MESSY;
 use crate::d1::TIDY;
 use crate::log_bytes::first_bytes;
+use crate::writing::append;
 use trials::Tally;
-use trials::byte_at;
 use trials::set_byte;
 
 // Each prefix of a log, from no byte to all of them.
@@ -25,32 +26,31 @@ pub(crate) fn prefixes() -> Tally {
 // The values that bytes are changed to: limits of n and T, one past them, the bytes of marks, and others.
 const VALUES: [usize; 16] = [0, 1, 2, 3, 4, 5, 10, 64, 65, 67, 68, 69, 84, 96, 97, 255];
 
-// A log with byte i set to each of those values in turn; then the byte is put back. A change can make the day larger.
-fn change_byte(tally: Tally, log: &mut [u8], i: usize) -> Tally {
-    let values = VALUES;
-    let kept = byte_at(log, i);
-    let mut t = tally;
-    for j in 0..16usize {
-        set_byte(log, i, values[j]);
-        t = judged(t, log, 400, 1400);
+// A log of 40 bytes at most with byte i set to the value at a place of those; no case where it has no byte i. A change can make the day larger.
+fn with_byte(tally: Tally, log: &[u8], i: usize, place: usize) -> Tally
+    requires { ⌜ place < 16 ⌝ }
+{
+    if log.len() <= i {
+        return tally;
     }
-    set_byte(log, i, kept);
-    t
+    let values = VALUES;
+    let mut changed = [0u8; 40];
+    append(&mut changed, 0, log);
+    set_byte(&mut changed, i, values[place]);
+    judged(tally, first_bytes(&changed, log.len()), 400, 1400)
 }
 
-// A log with each byte changed.
-fn change_bytes(tally: Tally, log: &mut [u8]) -> Tally {
+// A log with each byte set to each of the values.
+fn change_bytes(tally: Tally, log: &[u8]) -> Tally {
     let mut t = tally;
-    for i in 0..log.len() {
-        t = change_byte(t, log, i);
+    for change in 0..640usize {
+        t = with_byte(t, log, change / 16, change % 16);
     }
     t
 }
 
 // D1's logs with each byte changed.
 pub(crate) fn changed_bytes() -> Tally {
-    let mut tidy = TIDY;
-    let mut messy = MESSY;
-    let t = change_bytes(Tally::none(), &mut tidy);
-    change_bytes(t, &mut messy)
+    let t = change_bytes(Tally::none(), &TIDY);
+    change_bytes(t, &MESSY)
 }

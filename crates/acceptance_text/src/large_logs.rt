@@ -22,14 +22,24 @@ use trials::Tally;
 use trials::same_bytes;
 use trials::same_words;
 
+// More words than the largest day has, as they are before a call.
+fn more_words() -> [u64; 6200] {
+    [PATTERN; 6200]
+}
+
+// More bytes than the largest report has, as they are before a call.
+fn more_bytes() -> [u8; 60600] {
+    [FILLER; 60600]
+}
+
 // A day of full size: the answer, every word and every byte of the report, and the text in pieces of as many bytes as a program might use.
 fn full_day(tally: Tally, log: &[u8], away: bool, listing: Listing, groups: &[u64]) -> Tally {
-    let mut wanted_words = [PATTERN; 6200];
+    let mut wanted_words = more_words();
     put_words(&mut wanted_words, away);
-    let mut wanted_report = [FILLER; 60600];
+    let mut wanted_report = more_bytes();
     put_report(&mut wanted_report, listing, groups);
-    let mut words = [PATTERN; 6200];
-    let mut report = [FILLER; 60600];
+    let mut words = more_words();
+    let mut report = more_bytes();
     let answer = prepare(log, &mut words, &mut report, 6180, 60538);
     let t = tally.with_case(answers(answer, listing));
     let t = t.with_case(same_words(&words, &wanted_words));
@@ -69,6 +79,18 @@ fn put_repeats(log: &mut [u8], contacts: usize) {
     put_end(log, contacts);
 }
 
+// Room for the longest log, and for bytes after it.
+fn empty_log() -> [u8; 48100] {
+    [0; 48100]
+}
+
+// That log in its room.
+fn repeats(contacts: usize) -> [u8; 48100] {
+    let mut log = empty_log();
+    put_repeats(&mut log, contacts);
+    log
+}
+
 // A log's first bytes are refused.
 fn refuses(tally: Tally, log: &[u8], len: usize, wanted: &[u8]) -> Tally {
     by_hand(tally, first_bytes(log, len), wanted)
@@ -98,20 +120,24 @@ fn cuts(t: Tally, log: &[u8]) -> Tally {
 
 // 8,000 contacts: the log of 48,010 bytes, and others of its bytes.
 fn at_limit(t: Tally) -> Tally {
-    let mut log = [0u8; 48100];
-    put_repeats(&mut log, 8000);
-    cuts(passes(t, first_bytes(&log, 48010)), &log)
+    let room = repeats(8000);
+    let log: &[u8] = &room;
+    cuts(passes(t, first_bytes(log, 48010)), log)
 }
 
-// Number 8,001 is refused as soon as its mark is there, and a bad one before it is refused first.
+// Number 8,001 is refused as soon as its mark is there.
+fn one_more(t: Tally, log: &[u8]) -> Tally {
+    let t = refuses(t, log, 48016, b"refused 5 at 48004\n");
+    let t = refuses(t, log, 48011, b"refused 5 at 48004\n");
+    let t = refuses(t, log, 48006, b"refused 5 at 48004\n");
+    let t = refuses(t, log, 48005, b"refused 1 at 48004\n");
+    judged(t, log, 400, 1400)
+}
+
+// A bad one before it is refused first.
 fn over_limit(t: Tally) -> Tally {
-    let mut log = [0u8; 48100];
-    put_repeats(&mut log, 8001);
-    let t = refuses(t, &log, 48016, b"refused 5 at 48004\n");
-    let t = refuses(t, &log, 48011, b"refused 5 at 48004\n");
-    let t = refuses(t, &log, 48006, b"refused 5 at 48004\n");
-    let t = refuses(t, &log, 48005, b"refused 1 at 48004\n");
-    let t = judged(t, &log, 400, 1400);
+    let mut log = repeats(8001);
+    let t = one_more(t, &log);
     put_contact(&mut log, 7999, 1, 1, 0, 0);
     refuses(t, &log, 48016, b"refused 4 at 47998\n")
 }

@@ -2,9 +2,11 @@
 ghost use Prim.Native.Nat.{_≤_};
 use crate::bits::has;
 use crate::judging::Verdict;
+use crate::lines::Line;
+use crate::lines::empty;
+use crate::lines::with_field;
+use crate::lines::with_text;
 use crate::maximal::put_groups;
-use crate::writing::append;
-use crate::writing::append_field;
 use trials::word_at;
 
 // Number 0: n, T and the number of groups, which stand in a list. Any other number: refused, at an offset.
@@ -79,59 +81,58 @@ pub(crate) fn listing_of(
     }
 }
 
-// Appends badge v, if it is a member.
-fn append_member(line: &mut [u8], at: usize, members: u64, v: usize) -> usize {
+// A line with badge v, if it is a member.
+fn with_member(line: Line, members: u64, v: usize) -> Line {
     if has(members, v) {
-        return append_field(line, at, b" ", v);
+        return with_field(line, b" ", v);
     }
-    at
+    line
 }
 
-// Appends the members, rising.
-fn append_members(line: &mut [u8], at: usize, members: u64) -> usize {
-    let mut so_far = at;
+// A line with the members, rising.
+fn with_members(line: Line, members: u64) -> Line {
+    let mut longer = line;
     for v in 0..64usize {
-        let appended = append_member(line, so_far, members, v);
-        so_far = appended;
+        let next = with_member(longer, members, v);
+        longer = next;
     }
-    so_far
+    longer
 }
 
-// Puts the line of group g, and gives its length.
-fn put_group_line(line: &mut [u8], groups: &[u64], g: usize) -> usize {
+// The line of group g.
+fn group_line(groups: &[u64], g: usize) -> Line {
     if 9216 < g {
-        return 0;
+        return empty();
     }
-    let at = append_field(line, 0, b"order ", word_at(groups, 4 * g) as usize);
-    let at = append_field(line, at, b" ticks ", word_at(groups, 4 * g + 1) as usize);
-    let at = append_field(line, at, b" to ", word_at(groups, 4 * g + 2) as usize);
-    let at = append(line, at, b" badges");
-    let at = append_members(line, at, word_at(groups, 4 * g + 3));
-    append(line, at, b"\n")
+    let line = with_field(empty(), b"order ", word_at(groups, 4 * g) as usize);
+    let line = with_field(line, b" ticks ", word_at(groups, 4 * g + 1) as usize);
+    let line = with_field(line, b" to ", word_at(groups, 4 * g + 2) as usize);
+    let line = with_text(line, b" badges");
+    with_text(with_members(line, word_at(groups, 4 * g + 3)), b"\n")
 }
 
-// Puts the first line.
-fn put_first_line(line: &mut [u8], listing: Listing) -> usize {
-    let at = append_field(line, 0, b"badges ", listing.badges);
-    let at = append_field(line, at, b" ticks ", listing.ticks);
-    let at = append_field(line, at, b" groups ", listing.groups);
-    append(line, at, b"\n")
+// The first line.
+fn first_line(listing: Listing) -> Line {
+    let line = with_field(empty(), b"badges ", listing.badges);
+    let line = with_field(line, b" ticks ", listing.ticks);
+    let line = with_field(line, b" groups ", listing.groups);
+    with_text(line, b"\n")
 }
 
-// Puts the line of a refusal.
-fn put_refusal_line(line: &mut [u8], listing: Listing) -> usize {
-    let at = append_field(line, 0, b"refused ", listing.number);
-    let at = append_field(line, at, b" at ", listing.offset);
-    append(line, at, b"\n")
+// The line of a refusal.
+fn refusal_line(listing: Listing) -> Line {
+    let line = with_field(empty(), b"refused ", listing.number);
+    let line = with_field(line, b" at ", listing.offset);
+    with_text(line, b"\n")
 }
 
-// Puts line i, and gives its length.
-pub(crate) fn put_line(line: &mut [u8], listing: Listing, groups: &[u64], i: usize) -> usize {
+// Line i.
+pub(crate) fn line_at(listing: Listing, groups: &[u64], i: usize) -> Line {
     if listing.number != 0 {
-        return put_refusal_line(line, listing);
+        return refusal_line(listing);
     }
     if i == 0 {
-        return put_first_line(line, listing);
+        return first_line(listing);
     }
-    put_group_line(line, groups, i - 1)
+    group_line(groups, i - 1)
 }

@@ -1,7 +1,7 @@
 // The bytes of a log, by record. The header has 4 bytes and every other record 6, so record k after the header starts at 4 + 6k.
 ghost use Prim.Native.Nat.{_≤_, _<_};
+use crate::writing::append_bytes_of;
 use trials::byte_at;
-use trials::set_byte;
 
 // The marks, each as the number of its two ASCII bytes.
 pub(crate) const BH: usize = 0x4248;
@@ -42,23 +42,25 @@ pub(crate) fn count_of(log: &[u8], k: usize) -> usize {
     low + high * 65536
 }
 
+// A mark and the two bytes after it as a number, the first byte lowest.
+fn number_of(mark: usize, a: usize, b: usize) -> u64 {
+    (mark / 256 % 256 + mark % 256 * 256 + a % 256 * 65536 + b % 256 * 16777216) as u64
+}
+
 // Puts a mark and four bytes as record k after the header.
 fn put_record(log: &mut [u8], k: usize, mark: usize, a: usize, b: usize, c: usize, d: usize) {
-    let at = place(k);
-    set_byte(log, at, mark / 256);
-    set_byte(log, at + 1, mark);
-    set_byte(log, at + 2, a);
-    set_byte(log, at + 3, b);
-    set_byte(log, at + 4, c);
-    set_byte(log, at + 5, d);
+    let rest = (c % 256 + d % 256 * 256) as u64;
+    append_bytes_of(
+        log,
+        place(k),
+        number_of(mark, a, b) % 4294967296 + rest * 4294967296,
+        6,
+    );
 }
 
 // Puts the header of n badges and T ticks.
 pub(crate) fn put_header(log: &mut [u8], n: usize, ticks: usize) {
-    set_byte(log, 0, BH / 256);
-    set_byte(log, 1, BH);
-    set_byte(log, 2, n);
-    set_byte(log, 3, ticks);
+    append_bytes_of(log, 0, number_of(BH, n, ticks), 4);
 }
 
 // Puts a contact as record k after the header.
@@ -78,4 +80,12 @@ pub(crate) fn first_bytes(bytes: &[u8], len: usize) -> &[u8] {
         return &bytes[..len];
     }
     bytes
+}
+
+// The bytes from a position on: none past the end.
+pub(crate) fn bytes_from(bytes: &[u8], at: usize) -> &[u8] {
+    if at <= bytes.len() {
+        return &bytes[at..];
+    }
+    first_bytes(bytes, 0)
 }

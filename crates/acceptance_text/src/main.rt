@@ -11,6 +11,7 @@ mod judging;
 mod large_days;
 mod large_logs;
 mod lent_slices;
+mod lines;
 mod listing;
 mod log_bytes;
 mod maximal;

@@ -11,25 +11,37 @@ use crate::listing::listing_of;
 use crate::log_bytes::first_bytes;
 use crate::pieces::piece;
 use crate::pieces::whole_text;
+use crate::preparing::all_bytes;
+use crate::preparing::all_words;
 use text::Written;
-use trials::FILLER;
 use trials::SEED;
 use trials::Tally;
 use trials::draw;
 
-// Pieces of a small text: from each of eight places, with each size of a buffer up to 100.
-fn small_text(tally: Tally, log: &[u8]) -> Tally {
-    let mut groups = [0u64; 40];
-    let listing = listing_of(&mut groups, log, judge(log), 6144, 60538);
-    let mut words = [0u64; 6144];
-    let mut report = [FILLER; 60538];
-    let answer = text::prepare(log, &mut words, &mut report);
+// Pieces of a text: from each of eight places, with each size of a buffer up to 100.
+fn small_pieces(
+    tally: Tally,
+    answer: Written,
+    report: &[u8],
+    listing: Listing,
+    groups: &[u64],
+) -> Tally {
     let mut t = tally;
     for i in 0..808usize {
-        let reached = piece(answer, &report, listing, &groups, i / 101, i % 101);
+        let reached = piece(answer, report, listing, groups, i / 101, i % 101);
         t = t.with_case(reached.right);
     }
     t
+}
+
+// The pieces of a small text.
+fn small_text(tally: Tally, log: &[u8]) -> Tally {
+    let mut groups = [0u64; 40];
+    let listing = listing_of(&mut groups, log, judge(log), 6144, 60538);
+    let mut words = all_words();
+    let mut report = all_bytes();
+    let answer = text::prepare(log, &mut words, &mut report);
+    small_pieces(tally, answer, &report, listing, &groups)
 }
 
 // D1's three lines of 92 bytes, a first line alone, and a refusal.
@@ -112,12 +124,13 @@ fn past_end(
 
 // A large text in pieces.
 fn large_text(tally: Tally, log: &[u8], listing: Listing, groups: &[u64]) -> Tally {
-    let mut words = [0u64; 6144];
-    let mut report = [FILLER; 60538];
-    let answer = text::prepare(log, &mut words, &mut report);
-    let t = all_sizes(tally, answer, &report, listing, groups);
-    let t = any_place(t, answer, &report, listing, groups);
-    past_end(t, answer, &report, listing, groups)
+    let mut words = all_words();
+    let mut bytes = all_bytes();
+    let answer = text::prepare(log, &mut words, &mut bytes);
+    let report: &[u8] = &bytes;
+    let t = all_sizes(tally, answer, report, listing, groups);
+    let t = any_place(t, answer, report, listing, groups);
+    past_end(t, answer, report, listing, groups)
 }
 
 // The text of one group of 64 badges.

@@ -1,8 +1,8 @@
 // Pieces of a text: those that the product makes, against whole lines of the second implementation put one after the other as long as they
 // fit. A buffer has more bytes than are lent, and every byte of it is compared.
 use crate::listing::Listing;
+use crate::listing::line_at;
 use crate::listing::line_count;
-use crate::listing::put_line;
 use crate::log_bytes::first_bytes;
 use crate::writing::append;
 use crate::writing::later;
@@ -25,19 +25,19 @@ fn put_piece(
     from: usize,
     room: usize,
 ) -> Reached {
-    let mut line = [0u8; 320];
     let mut next = from;
     let mut at = 0;
     while next < line_count(listing) {
-        let size = put_line(&mut line, listing, groups, next);
-        if room < later(at, size) {
+        let line = line_at(listing, groups, next);
+        let bytes = line.bytes;
+        if room < later(at, line.len) {
             return Reached {
                 next,
                 bytes: at,
                 right: true,
             };
         }
-        at = append(buffer, at, first_bytes(&line, size));
+        at = append(buffer, at, first_bytes(&bytes, line.len));
         next += 1;
     }
     Reached {
@@ -87,6 +87,11 @@ fn small_piece(
     compare_piece(answer, report, from, room, &mut buffer, &wanted, reached)
 }
 
+// A buffer for it, as it is before a call.
+fn large_buffer() -> [u8; 65600] {
+    [FILLER; 65600]
+}
+
 // A piece of at most 65,536 bytes.
 fn large_piece(
     answer: Written,
@@ -96,8 +101,8 @@ fn large_piece(
     from: usize,
     room: usize,
 ) -> Reached {
-    let mut buffer = [FILLER; 65600];
-    let mut wanted = [FILLER; 65600];
+    let mut buffer = large_buffer();
+    let mut wanted = large_buffer();
     let reached = put_piece(&mut wanted, listing, groups, from, room);
     compare_piece(answer, report, from, room, &mut buffer, &wanted, reached)
 }

@@ -2,9 +2,20 @@
 use crate::listing::Listing;
 use crate::listing::report_size;
 use text::Written;
+use trials::FILLER;
 
 // What each word holds before a call. No small day has such a word.
 pub(crate) const PATTERN: u64 = 0xa5a5_a5a5_a5a5_a5a5;
+
+// Words for the largest day, as they are before a call.
+pub(crate) fn all_words() -> [u64; 6144] {
+    [PATTERN; 6144]
+}
+
+// Bytes for the largest report, as they are before a call.
+pub(crate) fn all_bytes() -> [u8; 60538] {
+    [FILLER; 60538]
+}
 
 // What prepare answers, with so many words and so many bytes lent. More than there are is a mistake of the case's own: its answer of no
 // bytes is none of prepare's.

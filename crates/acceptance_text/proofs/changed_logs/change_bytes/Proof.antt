@@ -1,34 +1,29 @@
--- `changed_logs::change_bytes` is safe, and the log keeps its length.
-use mathlib.Core.Path.{_≡_}
+-- `changed_logs::change_bytes` is safe, and ends.
 use Prim.Native.Nat.{_-_}
-use lib.ListN.{length}
 use borrow.Author.Needs.{needs}
 use Rattle.acceptance_text.proofs.changed_logs.change_bytes.Statement.{statement}
 use Rattle.acceptance_text.proofs.changed_logs.change_bytes.Tie as tie
 
 abbrev Inv-loop : tie.InvT-loop
-Inv-loop log₀ t₀ i₀ i-end log t i = length log ≡ length log₀
+Inv-loop log t₀ change₀ t change = Unit
 
 abbrev μ-loop : tie.MeasureT-loop
-μ-loop log₀ t₀ i₀ i-end log t i = i-end - i
+μ-loop log t₀ change₀ t change = 640 - change
 
 loop-holds : tie.Need-loop-holds Inv-loop μ-loop
 loop-holds c = search needs
 
-change-byte-requires : tie.Need-change-byte-requires Inv-loop μ-loop
-change-byte-requires c κs = search needs
+with-byte-requires : tie.Need-with-byte-requires Inv-loop μ-loop
+with-byte-requires c κs = search needs
 
-add-i : tie.Need-add-i Inv-loop μ-loop
-add-i c = search needs
+add-change : tie.Need-add-change Inv-loop μ-loop
+add-change c = search needs
 
 loop-less : tie.Need-loop-less Inv-loop μ-loop
 loop-less c = search needs
 
 loop-again : tie.Need-loop-again Inv-loop μ-loop
 loop-again c = search needs
-
-same-length : tie.Need-same-length Inv-loop μ-loop
-same-length c = search needs
 
 returns : tie.Need-returns Inv-loop μ-loop
 returns c = search needs
@@ -40,9 +35,8 @@ change-bytes-spec =
     Inv-loop
     μ-loop
     loop-holds
-    change-byte-requires
-    add-i
+    with-byte-requires
+    add-change
     loop-less
     loop-again
-    same-length
     returns)

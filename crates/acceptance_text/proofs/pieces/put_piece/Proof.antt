@@ -1,4 +1,4 @@
--- `pieces::put_piece` is safe: there are at most 9,217 lines; the buffer and the line keep their lengths.
+-- `pieces::put_piece` is safe: there are at most 9,217 lines; the buffer keeps its length.
 use mathlib.Core.Path.{_≡_}
 use Prim.Native.Nat.{_-_}
 use lib.ListN.{length}
@@ -7,10 +7,10 @@ use Rattle.acceptance_text.proofs.pieces.put_piece.Statement.{statement
 use Rattle.acceptance_text.proofs.pieces.put_piece.Tie as tie
 
 abbrev Inv-loop : tie.InvT-loop
-Inv-loop buffer₀ listing groups from room line₀ next₀ at₀ buffer line next at = (length buffer ≡ length buffer₀) × (320 ≡ length line)
+Inv-loop buffer₀ listing groups from room next₀ at₀ buffer next at = length buffer ≡ length buffer₀
 
 abbrev μ-loop : tie.MeasureT-loop
-μ-loop buffer₀ listing groups from room line₀ next₀ at₀ buffer line next at = 9217 - next
+μ-loop buffer₀ listing groups from room next₀ at₀ buffer next at = 9217 - next
 
 loop-holds : tie.Need-loop-holds Inv-loop μ-loop
 loop-holds c = search needs
@@ -18,11 +18,8 @@ loop-holds c = search needs
 line-count-requires : tie.Need-line-count-requires Inv-loop μ-loop
 line-count-requires c κs = search needs
 
-slice-aggregate-put-line : tie.Need-slice-aggregate-put-line Inv-loop μ-loop
-slice-aggregate-put-line c = search needs
-
-put-line-requires : tie.Need-put-line-requires Inv-loop μ-loop
-put-line-requires c κs = search needs
+line-at-requires : tie.Need-line-at-requires Inv-loop μ-loop
+line-at-requires c κs = search needs
 
 later-requires : tie.Need-later-requires Inv-loop μ-loop
 later-requires c κs = search needs
@@ -65,8 +62,7 @@ put-piece-spec =
     μ-loop
     loop-holds
     line-count-requires
-    slice-aggregate-put-line
-    put-line-requires
+    line-at-requires
     later-requires
     same-length
     returns

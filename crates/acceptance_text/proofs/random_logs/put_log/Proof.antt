@@ -7,10 +7,10 @@ use Rattle.acceptance_text.proofs.random_logs.put_log.Statement.{statem
 use Rattle.acceptance_text.proofs.random_logs.put_log.Tie as tie
 
 abbrev Inv-loop : tie.InvT-loop
-Inv-loop log₀ n ticks contacts state₀ k₀ log state k = length log ≡ length log₀
+Inv-loop log₀ n ticks contacts state so-far₀ k₀ log so-far k = length log ≡ length log₀
 
 abbrev μ-loop : tie.MeasureT-loop
-μ-loop log₀ n ticks contacts state₀ k₀ log state k = contacts - k
+μ-loop log₀ n ticks contacts state so-far₀ k₀ log so-far k = contacts - k
 
 put-header-requires : tie.Need-put-header-requires Inv-loop μ-loop
 put-header-requires c κs = search needs

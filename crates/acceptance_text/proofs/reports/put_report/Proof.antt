@@ -7,25 +7,19 @@ use Rattle.acceptance_text.proofs.reports.put_report.Statement.{stateme
 use Rattle.acceptance_text.proofs.reports.put_report.Tie as tie
 
 abbrev Inv-loop : tie.InvT-loop
-Inv-loop report₀ listing groups at₀ g₀ t9 g-end report at g = length report ≡ length report₀
+Inv-loop report₀ listing groups at₀ g₀ g-end report at g = length report ≡ length report₀
 
 abbrev μ-loop : tie.MeasureT-loop
-μ-loop report₀ listing groups at₀ g₀ t9 g-end report at g = listing .groups - g
+μ-loop report₀ listing groups at₀ g₀ g-end report at g = listing .groups - g
 
 returns : tie.Need-returns Inv-loop μ-loop
 returns c = search needs
 
-slice-aggregate-append : tie.Need-slice-aggregate-append Inv-loop μ-loop
-slice-aggregate-append c = search needs
-
-append-requires : tie.Need-append-requires Inv-loop μ-loop
-append-requires c κs = search needs
+header-requires : tie.Need-header-requires Inv-loop μ-loop
+header-requires c κs = search needs
 
 append-bytes-of-requires : tie.Need-append-bytes-of-requires Inv-loop μ-loop
 append-bytes-of-requires c κs = search needs
-
-append-bytes-of-requires-2 : tie.Need-append-bytes-of-requires-2 Inv-loop μ-loop
-append-bytes-of-requires-2 c κs = search needs
 
 loop-holds : tie.Need-loop-holds Inv-loop μ-loop
 loop-holds c = search needs
@@ -42,14 +36,11 @@ loop-less c = search needs
 loop-again : tie.Need-loop-again Inv-loop μ-loop
 loop-again c = search needs
 
-slice-aggregate-append-2 : tie.Need-slice-aggregate-append-2 Inv-loop μ-loop
-slice-aggregate-append-2 c = search needs
+end-requires : tie.Need-end-requires Inv-loop μ-loop
+end-requires c κs = search needs
 
-append-requires-2 : tie.Need-append-requires-2 Inv-loop μ-loop
-append-requires-2 c κs = search needs
-
-append-bytes-of-requires-3 : tie.Need-append-bytes-of-requires-3 Inv-loop μ-loop
-append-bytes-of-requires-3 c κs = search needs
+append-bytes-of-requires-2 : tie.Need-append-bytes-of-requires-2 Inv-loop μ-loop
+append-bytes-of-requires-2 c κs = search needs
 
 same-length : tie.Need-same-length Inv-loop μ-loop
 same-length c = search needs
@@ -64,17 +55,14 @@ put-report-spec =
     Inv-loop
     μ-loop
     returns
-    slice-aggregate-append
-    append-requires
+    header-requires
     append-bytes-of-requires
-    append-bytes-of-requires-2
     loop-holds
     append-record-requires
     add-g
     loop-less
     loop-again
-    slice-aggregate-append-2
-    append-requires-2
-    append-bytes-of-requires-3
+    end-requires
+    append-bytes-of-requires-2
     same-length
     returns-2)

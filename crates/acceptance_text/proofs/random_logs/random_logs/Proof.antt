@@ -1,14 +1,14 @@
--- `random_logs::small` is safe, and ends: its turns are counted.
-use Prim.Native.Nat.{_≤_, _-_}
+-- `random_logs::random_logs` is safe, and ends.
+use Prim.Native.Nat.{_-_}
 use borrow.Author.Needs.{needs}
-use Rattle.acceptance_text.proofs.random_logs.small.Statement.{statement}
-use Rattle.acceptance_text.proofs.random_logs.small.Tie as tie
+use Rattle.acceptance_text.proofs.random_logs.random_logs.Statement.{statement}
+use Rattle.acceptance_text.proofs.random_logs.random_logs.Tie as tie
 
 abbrev Inv-loop : tie.InvT-loop
-Inv-loop state₀ t₀ counter₀ state t counter = counter ≤ 2000
+Inv-loop logs badges ticks contacts progress₀ counter₀ progress counter = Unit
 
 abbrev μ-loop : tie.MeasureT-loop
-μ-loop state₀ t₀ counter₀ state t counter = 2000 - counter
+μ-loop logs badges ticks contacts progress₀ counter₀ progress counter = logs - counter
 
 none-requires : tie.Need-none-requires Inv-loop μ-loop
 none-requires c κs = search needs
@@ -31,8 +31,8 @@ loop-again c = search needs
 returns : tie.Need-returns Inv-loop μ-loop
 returns c = search needs
 
-pub small-spec : {M : Type 1} → statement M
-small-spec =
+pub random-logs-spec : {M : Type 1} → statement M
+random-logs-spec =
     tie.close
     (tie.spec
     Inv-loop
