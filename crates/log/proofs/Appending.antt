@@ -1,34 +1,28 @@
--- Contact records appended to a log's buffer: laws for the loops over ticks, larger badges and badges, and the tidy log that they leave.
-use mathlib.Core.Path.{_≡_, refl, sym, ap, ap₂, _∙_, subst}
-use mathlib.Core.Bool.{Bool, true, false}
+-- Contact records appended to a log's buffer: laws for the loops over a pair's runs, larger badges and badges, and the tidy log that they leave.
+use mathlib.Core.Path.{_≡_, sym, ap, ap₂, _∙_, subst}
+use mathlib.Core.Bool.{Bool, false}
 use mathlib.Core.List.{List, [], _∷_, _++_, append-assoc, append-nil}
-use mathlib.Core.Logic.{_⊎_, inl, inr}
-use Prim.Native.Nat.{ℕ, zero, suc, _+_, _*_, _≤_, _<_, min}
-use native.Mathlib.Nat.{eq-or-lt-of-le, not-suc-le-zero}
+use Prim.Native.Nat.{ℕ, suc, _+_, _-_, _*_, _≤_, _<_, min, zero-le}
 use native.Mathlib.Numerals.{add-one}
 use native.Mathlib.Omega.{arith}
 use lib.Dec.{ltb}
-use lib.Bits.{bitOr}
-use lib.ListN.{length, getD, take, length-append}
+use lib.ListN.{length, take, length-append}
 use borrow.Author.Tests.{lt-ltb, ltb-true}
-use Rattle.sets.specs.Bools.{_and_, isnt}
-use Rattle.sets.specs.Sets.{In, has, union}
 use Rattle.sets.specs.Tables.{concatBelow, keepIf}
-use Rattle.sets.proofs.Bools.{and-left}
-use Rattle.sets.proofs.Sets.{in-test, out-test, in-union-left, in-union-right}
-use Rattle.sets.proofs.Concat.{concat-nil, keep-nil}
+use Rattle.sets.proofs.Concat.{concat-gap, concat-nil, keep-nil}
 use Rattle.records.specs.declared.record.Record.{Record}
 use Rattle.records.specs.declared.record.Record.the-variants.{Header, Contact, End}
 use Rattle.records.specs.Limits.{maxContacts, maxLogBytes}
 use Rattle.records.specs.Records.{encode, encodeAll}
 use Rattle.records.specs.Logs.{logRecords}
 use Rattle.records.proofs.Records.{length-encode, encode-append}
-use Rattle.days.specs.Days.{neighbours, adjacent}
+use Rattle.days.specs.Days.{adjacent}
 use Rattle.log.specs.Buffers.{place}
-use Rattle.log.specs.Tidy.{runStart, runEnds, runAt, runsOf, tidyContacts, tidyLog}
-use Rattle.log.specs.Writing.{Appends, offsetAfter, unitedOf, startAfter, Encodes}
+use Rattle.log.specs.Tidy.{runAt, runsOf, tidyContacts, tidyLog}
+use Rattle.log.specs.TickSets.{First}
+use Rattle.log.specs.Writing.{Appends, offsetAfter, Encodes}
 use Rattle.log.proofs.Delivering.{take-place}
-use Rattle.log.proofs.Runs.{start-yes, start-not}
+use Rattle.log.proofs.PairRuns.{RunTo, run-apart, run-inside, run-last}
 
 -- nothing is appended
 pub appends-none : (count : ℕ) (buffer : List ℕ) → count ≤ suc maxContacts → Appends [] count count buffer buffer
@@ -66,47 +60,25 @@ pub appends-more : (f : ℕ → List Record) (m : ℕ) {a b c : ℕ} {x y z : Li
 unfolding concatBelow
 appends-more f m e g = rw add-one (appends-append e g)
 
--- the first tick of the run that leads up to the next tick
-start-after : (p : ℕ → Bool) (t : ℕ) → startAfter (p t) (runStart p t) t ≡ runStart p (t + 1)
-start-after p t = go (p t) refl
-  where
-    go : (b : Bool) → p t ≡ b → startAfter (p t) (runStart p t) t ≡ runStart p (t + 1)
-    go true e = rw (e, add-one, start-yes p t e)
-    go false e = rw (e, add-one, start-not p t e)
+-- The runs of one pair that end before a tick: none before the first tick in which it meets, one more before the next run's first tick, and
+-- all of them where it meets in no tick from T on.
+module _ (T : ℕ) (p : ℕ → Bool) (u v : ℕ) where
+  pub runs-none : {until first : ℕ} → First p 0 until first → concatBelow first (runAt T p u v) ≡ []
+  runs-none f = concat-nil _ (runAt T p u v) (λ t h. run-apart T p u v t (f .none t zero-le h))
 
--- a turn of the loop over the ticks: the run that ends in tick t, if one does, and the first tick of the one that leads up to the next
-module _ (T : ℕ) (p : ℕ → Bool) (t start : ℕ) (met : Bool) (h : t < T) (e : start ≡ runStart p t) (f : met ≡ (ltb t T and p t)) where
-  pub runs-more : (u v : ℕ) {after : Bool} → after ≡ (ltb (t + 1) T and p (t + 1)) → {a b c : ℕ} {x y z : List ℕ} → Appends (concatBelow t (runAt T p u v)) a b x y
-      → Appends (keepIf (met and isnt after) (Contact u v start t ∷ [])) b c y z → Appends (concatBelow (t + 1) (runAt T p u v)) a c x z
-  unfolding runAt runEnds _and_
-  runs-more u v {after} g {a} {b} {c} {x} {y} {z} i j =
-      let same : keepIf (met and isnt after) (Contact u v start t ∷ []) ≡ runAt T p u v t = rw (e, f, g, add-one, lt-ltb t T h) in
-      appends-more (runAt T p u v) t i (subst (λ (cs : List Record). Appends cs b c y z) same j)
+  pub runs-more : {until first end next : ℕ} → RunTo T p first end → First p end until next → {a b c : ℕ} {x y z : List ℕ}
+      → Appends (concatBelow first (runAt T p u v)) a b x y → Appends (Contact u v first (end - 1) ∷ []) b c y z → Appends (concatBelow next (runAt T p u v)) a c x z
+  unfolding concatBelow
+  runs-more {until} {first} {end} {next} r f {a} {b} {c} {x} {y} {z} i j =
+      let last = end - 1 in
+      let e : end ≡ suc last = omega (arith, r .rising) in
+      let gap : concatBelow next (runAt T p u v) ≡ concatBelow end (runAt T p u v) = concat-gap (runAt T p u v) end next (f .low) (λ t k l. run-apart T p u v t (f .none t k l)) in
+      let same : concatBelow last (runAt T p u v) ≡ concatBelow first (runAt T p u v) = concat-gap (runAt T p u v) first last (omega (arith, r .rising)) (λ t k l. run-inside T p u v t (r .run) k l) in
+      rw (gap, e, same, run-last T p u v (r .run)) (appends-append i j)
 
-  pub start-more : startAfter met start t ≡ runStart p (t + 1)
-  unfolding _and_
-  start-more = rw (e, f, lt-ltb t T h) (start-after p t)
-
--- the neighbours of one more tick united
-pub united-more : (n t : ℕ) (ws : List ℕ) (u : ℕ) → bitOr (unitedOf n t ws u) (getD ws (t * n + u) 0) ≡ unitedOf n (t + 1) ws u
-unfolding unitedOf union neighbours
-united-more n t ws u = rw add-one
-
-module _ (n T : ℕ) (ws : List ℕ) (u : ℕ) where
-  -- every badge that u meets is in the united set
-  in-united : (S t v : ℕ) → t < S → In (neighbours n ws t u) v → In (unitedOf n S ws u) v
-  unfolding unitedOf
-  in-united zero t v h i = absurd (not-suc-le-zero h)
-  in-united (suc S) t v h i = go (eq-or-lt-of-le h) (in-united S t v)
-    where
-      go : (suc t ≡ suc S) ⊎ (suc t < suc S) → (t < S → In (neighbours n ws t u) v → In (unitedOf n S ws u) v) → In (unitedOf n (suc S) ws u) v
-      go (inl e) ih = let g : t ≡ S = omega arith in in-union-right (unitedOf n S ws u) (neighbours n ws S u) v (rw (← g) i)
-      go (inr l) ih = in-union-left (unitedOf n S ws u) (neighbours n ws S u) v (ih (omega arith) i)
-
-  -- a badge outside the united set has no run with u
-  pub never-met : (v : ℕ) → has (unitedOf n T ws u) v ≡ false → runsOf T (λ t. adjacent n ws t u v) u v ≡ []
-  unfolding runsOf runAt runEnds adjacent
-  never-met v e = concat-nil T _ (λ t h. keep-nil _ _ (λ f. out-test _ v e (in-united T t v h (in-test _ v (and-left _ _ f)))))
+  pub runs-all : {first : ℕ} → ((t : ℕ) → T ≤ t → p t ≡ false) → T ≤ first → concatBelow first (runAt T p u v) ≡ runsOf T p u v
+  unfolding runsOf
+  runs-all {first} h l = concat-gap (runAt T p u v) T first l (λ t k m. run-apart T p u v t (h t k))
 
 -- the runs of u and v, if v is the larger badge
 abbrev pub largerRuns : ℕ → (ℕ → ℕ → ℕ → Bool) → ℕ → ℕ → List Record

@@ -2,7 +2,11 @@
 
 -- the runs of a pair, and the tidy form
 pub mod Runs
+pub mod PairRuns
 pub mod TidyForm
+-- the ticks in which two badges meet
+pub mod TickSets
+pub mod Gathering
 -- the tidy log: its runs appended one after the other, and the whole put into a buffer
 pub mod Delivering
 pub mod Appending

@@ -1,6 +1,6 @@
 -- Laws of the unbroken runs of one pair, of which p t says whether it meets in tick t: where the run that leads up to a tick starts,
 -- that the computed runs are the unbroken runs, and that every tick in which the pair meets is in one of them.
-use mathlib.Core.Path.{_≡_, refl, sym, _∙_}
+use mathlib.Core.Path.{_≡_, refl, sym, ap₂, _∙_}
 use mathlib.Core.Bool.{Bool, true, false}
 use mathlib.Core.Logic.{_⊎_, inl, inr, _↔_}
 use Prim.Native.Nat.{ℕ, zero, suc, _+_, _-_, _≤_, _<_, zero-le}
@@ -8,20 +8,21 @@ use native.Mathlib.Nat.{le-refl, eq-or-lt-of-le, not-suc-le-zero}
 use native.Mathlib.Omega.{arith}
 use lib.Dec.{ltb}
 use borrow.Author.Tests.{ltb-true, ltb-false, lt-ltb}
+use Rattle.sets.specs.Bools.{_and_, isnt}
 use Rattle.sets.proofs.Bools.{clash, and-in, and-left, and-right, isnt-in, isnt-of}
 use Rattle.log.specs.Tidy.{Run, runStart, runEnds}
 
 -- the run that leads up to the next tick: it goes on if the pair meets in this tick, and starts anew if not
-pub start-yes : (p : ℕ → Bool) (t : ℕ) → p t ≡ true → runStart p (suc t) ≡ runStart p t
+start-yes : (p : ℕ → Bool) (t : ℕ) → p t ≡ true → runStart p (suc t) ≡ runStart p t
 unfolding runStart
 start-yes p t e = rw (runStart, e)
 
-pub start-not : (p : ℕ → Bool) (t : ℕ) → p t ≡ false → runStart p (suc t) ≡ suc t
+start-not : (p : ℕ → Bool) (t : ℕ) → p t ≡ false → runStart p (suc t) ≡ suc t
 unfolding runStart
 start-not p t e = rw (runStart, e)
 
 -- a run starts no later than the tick that it leads up to
-pub start-le : (p : ℕ → Bool) (t : ℕ) → runStart p t ≤ t
+start-le : (p : ℕ → Bool) (t : ℕ) → runStart p t ≤ t
 unfolding runStart
 start-le p zero = zero-le
 start-le p (suc t) = go (p t) refl (start-le p t)
@@ -66,7 +67,7 @@ ends-in : (T : ℕ) (p : ℕ → Bool) (t : ℕ) → p t ≡ true → (suc t < T
 unfolding runEnds
 ends-in T p t e f = and-in _ _ e (isnt-in _ (λ g. f (ltb-true _ _ (and-left _ _ g)) (and-right _ _ g)))
 
-ends-of : (T : ℕ) (p : ℕ → Bool) (t : ℕ) → runEnds T p t ≡ true → (p t ≡ true) × (suc t < T → p (suc t) ≡ true → ⊥)
+pub ends-of : (T : ℕ) (p : ℕ → Bool) (t : ℕ) → runEnds T p t ≡ true → (p t ≡ true) × (suc t < T → p (suc t) ≡ true → ⊥)
 unfolding runEnds
 ends-of T p t e = (and-left _ _ e, λ k f. isnt-of _ (and-right _ _ e) (and-in _ _ (lt-ltb _ _ k) f))
 
@@ -152,3 +153,22 @@ run-meet T meet meet′ {f} {l} same r = record {
   before = λ t e m. r .before t e (same t (omega (arith, r .rising, r .inside)) .1 m);
   after = λ h m. r .after h (same (suc l) h .1 m);
 }
+
+-- So do the first tick of the run that leads up to a tick, and whether a tick is the last of a run.
+module _ (T : ℕ) (p q : ℕ → Bool) (same : (t : ℕ) → t < T → p t ≡ q t) where
+  pub start-same : (t : ℕ) → t ≤ T → runStart p t ≡ runStart q t
+  unfolding runStart
+  start-same zero h = refl
+  start-same (suc t) h = go (p t) refl (start-same t (omega arith))
+    where
+      go : (b : Bool) → p t ≡ b → runStart p t ≡ runStart q t → runStart p (suc t) ≡ runStart q (suc t)
+      go true e ih = start-yes p t e ∙ ih ∙ sym (start-yes q t (sym (same t h) ∙ e))
+      go false e ih = start-not p t e ∙ sym (start-not q t (sym (same t h) ∙ e))
+
+  pub ends-same : (t : ℕ) → t < T → runEnds T p t ≡ runEnds T q t
+  unfolding runEnds _and_
+  ends-same t h = ap₂ (λ a b. a and isnt b) (same t h) (go (ltb (suc t) T) refl)
+    where
+      go : (b : Bool) → ltb (suc t) T ≡ b → (ltb (suc t) T and p (suc t)) ≡ (ltb (suc t) T and q (suc t))
+      go true e = rw (same (suc t) (ltb-true _ _ e))
+      go false e = rw e

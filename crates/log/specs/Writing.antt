@@ -1,14 +1,12 @@
 -- What the parts of writing leave in the buffer. Private functions cite them; no promise rests on them.
 use mathlib.Core.Path.{_≡_}
-use mathlib.Core.Bool.{Bool, true, false}
 use mathlib.Core.List.{List, _++_}
-use Prim.Native.Nat.{ℕ, zero, suc, _+_, _*_, _≤_, min}
+use Prim.Native.Nat.{ℕ, suc, _+_, _*_, _≤_, min}
 use lib.ListN.{length, take}
-use Rattle.sets.specs.Sets.{union}
 use Rattle.records.specs.declared.record.Record.{Record}
 use Rattle.records.specs.Limits.{maxBadges, maxTicks, maxContacts, maxLogBytes, wordsFor}
 use Rattle.records.specs.Records.{encodeAll}
-use Rattle.days.specs.Days.{neighbours, adjacent}
+use Rattle.days.specs.Days.{adjacent}
 use Rattle.log.specs.Tidy.{tidyContacts, tidyLog}
 
 -- words that a log can be made of: n and T are no more than their limits, and there are words enough
@@ -31,16 +29,6 @@ offsetAfter count = 4 + 6 * count
 pub record Appends (cs : List Record) (count count′ : ℕ) (buffer buffer′ : List ℕ) : Type 0 where
   pub number : count′ ≡ min (suc maxContacts) (count + length cs)
   pub bytes : count′ ≤ maxContacts → take (offsetAfter count′) buffer′ ≡ take (offsetAfter count) buffer ++ encodeAll cs
-
--- every badge that u meets in the first T ticks
-unfoldable pub unitedOf : ℕ → ℕ → List ℕ → ℕ → ℕ
-unitedOf n zero ws u = 0
-unitedOf n (suc T) ws u = union (unitedOf n T ws u) (neighbours n ws T u)
-
--- the first tick of the run that leads up to the tick after t, where that of t begins at a tick
-abbrev pub startAfter : Bool → ℕ → ℕ → ℕ
-startAfter true start t = start
-startAfter false start t = t + 1
 
 -- the number of contact records of a day's tidy log, up to one too many, and the log, as long as there are not too many
 pub record Encodes (n T : ℕ) (ws : List ℕ) (count : ℕ) (buffer : List ℕ) : Type 0 where

@@ -1,92 +1,91 @@
--- append_pair meets its contract: before tick t of the loop the runs that end before t are appended, and the run that leads up to t begins
--- at start. A badge outside the united set has no run with u.
-use mathlib.Core.Bool.{Bool, false}
-use mathlib.Core.Path.{_≡_, refl, sym, ap, _∙_}
-use Prim.Native.Nat.{ℕ, _-_, _≤_}
+-- append_pair meets its contract: the runs that end before the tick at hand are appended, and a run starts with this tick, or there is none
+-- from it on. The loop ends as the tick grows.
+use mathlib.Core.Path.{_≡_, refl}
+use Prim.Native.Nat.{_-_, _≤_, _<_}
 use native.Mathlib.Omega.{arith}
-use lib.Dec.{ltb}
 use lib.ListN.{length}
 use borrow.Author.Needs.{needs}
-use borrow.Author.Tests.{not-true}
-use Rattle.sets.specs.Bools.{_and_}
-use Rattle.sets.specs.Sets.{has}
 use Rattle.sets.specs.Tables.{concatBelow}
-use Rattle.days.specs.Days.{adjacent}
-use Rattle.log.specs.Tidy.{runStart, runAt, runsOf}
-use Rattle.log.specs.Writing.{Appends, unitedOf}
-use Rattle.log.proofs.Runs.{start-le}
-use Rattle.log.proofs.Appending.{appends-none, never-met, runs-more, start-more}
+use Rattle.log.specs.Tidy.{runAt}
+use Rattle.log.specs.TickSets.{tickCapacity, hasTick}
+use Rattle.log.specs.Writing.{Appends}
+use Rattle.log.proofs.PairRuns.{RunFrom, RunTo, from-start, from-end, run-to}
+use Rattle.log.proofs.Appending.{appends-none, runs-none, runs-more, runs-all}
 use Rattle.log.proofs.pairs.append_pair.Statement.{statement}
 use Rattle.log.proofs.pairs.append_pair.Tie as tie
 
 abbrev Inv-loop : tie.InvT-loop
-Inv-loop words n ticks u v buffer₀ count so-far₀ start₀ met₀ t₀ buffer so-far start met t =
-    (t ≤ ticks) × (length buffer ≡ length buffer₀) × (start ≡ runStart (λ t. adjacent n words t u v) t) × (met ≡ (ltb t ticks and adjacent n words t u v))
-    × Appends (concatBelow t (runAt ticks (λ t. adjacent n words t u v) u v)) count so-far buffer₀ buffer
+Inv-loop met ticks u v buffer₀ count so-far₀ first₀ buffer so-far first =
+    (first ≤ tickCapacity) × (length buffer ≡ length buffer₀) × RunFrom ticks (hasTick met) first
+    × Appends (concatBelow first (runAt ticks (hasTick met) u v)) count so-far buffer₀ buffer
 
 abbrev μ-loop : tie.MeasureT-loop
-μ-loop words n ticks u v buffer₀ count so-far₀ start₀ met₀ t₀ buffer so-far start met t = ticks - t
+μ-loop met ticks u v buffer₀ count so-far₀ first₀ buffer so-far first = tickCapacity - first
 
-has-requires : tie.Need-has-requires Inv-loop μ-loop
-has-requires c κs = search needs
+-- the run at hand
+here : (c : tie.After-first-outside Inv-loop μ-loop) →
+    let a = c .before .before .before .before .before .args in RunTo (a .ticks) (hasTick (a .met)) (c .before .before .loop .first) (c .first-outside .result)
+here c =
+    let s = c .before .before .before .before .before in
+    let l : s .args .ticks < tickCapacity = omega arith in
+    run-to _ _ l (s .pre .4 .at) (c .before .before .loop .inv .2) (c .before .loop-test .taken) (c .first-outside .ensures)
 
-returns : tie.Need-returns Inv-loop μ-loop
-returns c =
-    let s = c .before .before .before .before in
-    let a = s .args in
-    let out : has (unitedOf (a .n) (a .ticks) (a .words .now) (a .u)) (a .v) ≡ false = ap (λ (x : ℕ). has x (a .v)) (sym (s .pre .4)) ∙ sym (c .before .has .ensures) ∙ not-true _ (c .if1 .taken) in
-    rw (never-met (a .n) (a .ticks) (a .words .now) (a .u) (a .v) out) (appends-none _ _ (omega arith))
-
-meets-requires : tie.Need-meets-requires Inv-loop μ-loop
-meets-requires c κs = search needs
+first-in-requires : tie.Need-first-in-requires Inv-loop μ-loop
+first-in-requires c κs = search needs
 
 loop-holds : tie.Need-loop-holds Inv-loop μ-loop
-unfolding runStart concatBelow
-loop-holds c = (search needs, refl, refl, c .meets .ensures, appends-none _ _ (omega arith))
+loop-holds c =
+    let s = c .before .before in
+    let f = c .first-in .ensures in
+    let l : s .args .ticks < tickCapacity = omega arith in
+    (f .high, refl, from-start _ _ l f, rw (runs-none (s .args .ticks) (hasTick (s .args .met)) (s .args .u) (s .args .v) f) (appends-none _ _ (omega arith)))
 
-add-meets : tie.Need-add-meets Inv-loop μ-loop
-add-meets c = search needs
+first-outside-requires : tie.Need-first-outside-requires Inv-loop μ-loop
+first-outside-requires c κs = search needs
 
-meets-requires-2 : tie.Need-meets-requires-2 Inv-loop μ-loop
-meets-requires-2 c κs = search needs
+sub-last : tie.Need-sub-last Inv-loop μ-loop
+sub-last c = omega (arith, here c .rising)
 
-append-run-requires : tie.Need-append-run-requires Inv-loop μ-loop
-append-run-requires c κs =
-    let i = c .before .before .before .loop in
-    let a = c .before .before .before .before .before .before .before .before .before .args in
-    (record { counted = omega (arith, i .inv .4 .number); long = omega arith }, omega arith, omega arith, omega (arith, start-le (λ t. adjacent (a .n) (a .words .now) t (a .u) (a .v)) (i .t)), omega arith)
+cast-append-contact : tie.Need-cast-append-contact Inv-loop μ-loop
+cast-append-contact c = search needs
 
-start-after-requires : tie.Need-start-after-requires Inv-loop μ-loop
-start-after-requires c κs = search needs
+cast-append-contact-2 : tie.Need-cast-append-contact-2 Inv-loop μ-loop
+cast-append-contact-2 c = search needs
 
-add-t : tie.Need-add-t Inv-loop μ-loop
-add-t c = search needs
+cast-append-contact-3 : tie.Need-cast-append-contact-3 Inv-loop μ-loop
+cast-append-contact-3 c = search needs
+
+cast-append-contact-4 : tie.Need-cast-append-contact-4 Inv-loop μ-loop
+cast-append-contact-4 c = omega (arith, here (c .before) .inside)
+
+append-contact-requires : tie.Need-append-contact-requires Inv-loop μ-loop
+append-contact-requires c κs = record { counted = omega (arith, c .before .before .before .loop .inv .3 .number); long = omega arith }
+
+first-in-requires-2 : tie.Need-first-in-requires-2 Inv-loop μ-loop
+first-in-requires-2 c κs = omega (arith, here (c .before .before .before .before) .inside)
 
 loop-less : tie.Need-loop-less Inv-loop μ-loop
-loop-less c = search needs
+loop-less c =
+    let r = here (c .before .before .before .before .before) in
+    omega (arith, r .rising, r .inside, c .first-in2 .ensures .low, c .first-in2 .ensures .high)
 
 loop-again : tie.Need-loop-again Inv-loop μ-loop
 loop-again c =
-    let i = c .before .before .before .before .before .before .before .loop in
-    let a = c .before .before .before .before .before .before .before .before .before .before .before .before .before .args in
-    let p : ℕ → Bool = λ t. adjacent (a .n) (a .words .now) t (a .u) (a .v) in
-    let here = c .before .before .before .before .before .before .loop-test .taken in
-    let after = c .before .before .before .before .before .meets2 .ensures in (
-      search needs,
-      omega arith,
-      c .start-after .ensures ∙ start-more (a .ticks) p (i .t) (i .start) (i .met) here (i .inv .2) (i .inv .3),
-      after,
-      runs-more (a .ticks) p (i .t) (i .start) (i .met) here (i .inv .2) (i .inv .3) (a .u) (a .v) after (i .inv .4) (c .before .before .before .append-run .ensures),
-    )
+    let o = c .before .before .before .before .before in
+    let s = o .before .before .before .before .before in
+    let i = o .before .before .loop .inv in
+    let l : s .args .ticks < tickCapacity = omega arith in
+    let f = c .first-in2 .ensures in
+    (f .high, omega arith, from-end _ _ l (here o) f, runs-more (s .args .ticks) (hasTick (s .args .met)) (s .args .u) (s .args .v) (here o) f (i .3) (c .before .before .before .append-contact .ensures))
 
 same-length : tie.Need-same-length Inv-loop μ-loop
 same-length c = search needs
 
-returns-2 : tie.Need-returns-2 Inv-loop μ-loop
-unfolding runsOf
-returns-2 c =
-    let e : c .before .loop .t ≡ c .before .before .before .before .before .before .before .args .ticks = omega (arith, c .loop-test .left) in
-    rw e at (c .before .loop .inv .4)
+returns : tie.Need-returns Inv-loop μ-loop
+returns c =
+    let s = c .before .before .before .before in
+    let e = runs-all (s .args .ticks) (hasTick (s .args .met)) (s .args .u) (s .args .v) (s .pre .4 .at) (c .loop-test .left) in
+    rw e at (c .before .loop .inv .3)
 
 pub append-pair-spec : {M : Type 1} → statement M
 append-pair-spec =
@@ -94,16 +93,17 @@ append-pair-spec =
     (tie.spec
     Inv-loop
     μ-loop
-    has-requires
-    returns
-    meets-requires
+    first-in-requires
     loop-holds
-    add-meets
-    meets-requires-2
-    append-run-requires
-    start-after-requires
-    add-t
+    first-outside-requires
+    sub-last
+    cast-append-contact
+    cast-append-contact-2
+    cast-append-contact-3
+    cast-append-contact-4
+    append-contact-requires
+    first-in-requires-2
     loop-less
     loop-again
     same-length
-    returns-2)
+    returns)

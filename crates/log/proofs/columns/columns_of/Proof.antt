@@ -1,0 +1,118 @@
+-- columns_of meets its contract: before tick t of the loop the columns hold the ticks before t.
+use mathlib.Core.Path.{_≡_, sym, ap, ap₂, _∙_}
+use Prim.Native.Nat.{_+_, _*_, _-_, _≤_, min}
+use native.Mathlib.Omega.{arith}
+use borrow.Author.Needs.{needs}
+use Rattle.sets.specs.Sets.{difference, only, full}
+use Rattle.sets.specs.Members.{capacity, members}
+use Rattle.sets.proofs.Bits.{one-shl}
+use Rattle.days.specs.Days.{neighbours}
+use Rattle.days.proofs.Days.{tick-fits}
+use Rattle.log.specs.TickSets.{united, Columns}
+use Rattle.log.proofs.Gathering.{columns-none, columns-more}
+use Rattle.log.proofs.columns.columns_of.Statement.{statement}
+use Rattle.log.proofs.columns.columns_of.Tie as tie
+
+abbrev Inv-loop : tie.InvT-loop
+Inv-loop words n ticks u from columns₀ smaller m t₀ columns t = (t ≤ m) × (members smaller ≡ full (u + 1)) × Columns n words u from t columns
+
+abbrev μ-loop : tie.MeasureT-loop
+μ-loop words n ticks u from columns₀ smaller m t₀ columns t = m - t
+
+-- the words of the tick are there
+here : (c : tie.In-loop Inv-loop μ-loop) →
+    let a = c .before .before .before .before .before .args in (a .from + c .before .loop .t) * a .n + a .n ≤ a .ticks * a .n
+here c = tick-fits _ _ _ (omega arith)
+
+add-full : tie.Need-add-full Inv-loop μ-loop
+add-full c = search needs
+
+full-requires : tie.Need-full-requires Inv-loop μ-loop
+full-requires c κs = search needs
+
+window-requires : tie.Need-window-requires Inv-loop μ-loop
+window-requires c κs = search needs
+
+loop-holds : tie.Need-loop-holds Inv-loop μ-loop
+loop-holds c = let a = c .before .before .before .args in
+    let m : min (a .u + 1) capacity ≡ a .u + 1 = omega arith in
+    (search needs, c .before .full .ensures ∙ ap full m, columns-none (a .n) (a .words .now) (a .u) (a .from))
+
+add-from-word : tie.Need-add-from-word Inv-loop μ-loop
+add-from-word c = omega (arith, here c)
+
+mul-from-word : tie.Need-mul-from-word Inv-loop μ-loop
+mul-from-word c = omega (arith, here c)
+
+add-from-word-2 : tie.Need-add-from-word-2 Inv-loop μ-loop
+add-from-word-2 c = omega (arith, here c)
+
+mul-from-word-2 : tie.Need-mul-from-word-2 Inv-loop μ-loop
+mul-from-word-2 c = omega (arith, here c)
+
+shared-slice-read-from-word : tie.Need-shared-slice-read-from-word Inv-loop μ-loop
+shared-slice-read-from-word c = omega (arith, here (c .before))
+
+from-word-requires : tie.Need-from-word-requires Inv-loop μ-loop
+from-word-requires c κs = search needs
+
+slice-aggregate-unite : tie.Need-slice-aggregate-unite Inv-loop μ-loop
+slice-aggregate-unite c = sym (c .before .before .before .before .loop .inv .2 .whole)
+
+difference-requires : tie.Need-difference-requires Inv-loop μ-loop
+difference-requires c κs = search needs
+
+shl-unite : tie.Need-shl-unite Inv-loop μ-loop
+shl-unite c = search needs
+
+unite-requires : tie.Need-unite-requires Inv-loop μ-loop
+unite-requires c κs = c .before .before .before .before .before .loop .inv .2 .whole
+
+add-t : tie.Need-add-t Inv-loop μ-loop
+add-t c = search needs
+
+loop-less : tie.Need-loop-less Inv-loop μ-loop
+loop-less c = search needs
+
+loop-again : tie.Need-loop-again Inv-loop μ-loop
+unfolding neighbours only
+loop-again c =
+    let d = c .before .before in
+    let l = d .before .before .before .before .before .loop in
+    let a = d .before .before .before .before .before .before .before .before .before .args in
+    let row = neighbours (a .n) (a .words .now) (a .from + l .t) (a .u) in
+    let e : c .before .unite .last .0 ≡ united (l .columns) (difference row (full (a .u + 1))) (only (l .t)) =
+    c .before .unite .ensures
+    ∙ ap₂ (united (l .columns)) (d .difference .ensures ∙ ap₂ difference (d .before .before .from-word .ensures) (l .inv .1)) (one-shl (l .t) (omega arith)) in
+    (search needs, l .inv .1, rw e (columns-more (a .n) (a .words .now) (a .u) (a .from) (l .t) (l .inv .2)))
+
+returns : tie.Need-returns Inv-loop μ-loop
+returns c =
+    let a = c .before .before .before .before .before .args in
+    let e : c .before .loop .t ≡ min capacity (a .ticks - a .from) = omega arith in
+    rw e at (c .before .loop .inv .2)
+
+pub columns-of-spec : {M : Type 1} → statement M
+columns-of-spec =
+    tie.close
+    (tie.spec
+    Inv-loop
+    μ-loop
+    add-full
+    full-requires
+    window-requires
+    loop-holds
+    add-from-word
+    mul-from-word
+    add-from-word-2
+    mul-from-word-2
+    shared-slice-read-from-word
+    from-word-requires
+    slice-aggregate-unite
+    difference-requires
+    shl-unite
+    unite-requires
+    add-t
+    loop-less
+    loop-again
+    returns)

@@ -1,0 +1,52 @@
+// The columns of a badge: for each larger one the ticks in which the two meet, as a word.
+ghost use mathlib.Core.Path.{_≡_};
+ghost use Prim.Native.Nat.{_-_, _≤_, _<_, min};
+ghost use lib.ListN.{length};
+ghost use Rattle.sets.specs.Members.{capacity, members};
+ghost use Rattle.records.specs.Limits.{maxTicks};
+ghost use Rattle.log.specs.TickSets.{united, Columns};
+ghost use Rattle.log.specs.Writing.{Writable};
+use sets::BadgeSet;
+
+// Adds the bits of a word to the column of each badge of a set.
+fn unite(columns: &mut [u64], badges: BadgeSet, bits: u64)
+    requires { ⌜ length (now columns) ≡ capacity ⌝ }
+    ensures { λ _. ⌜ now (columns .exit) ≡ united (now (columns .entry)) (members badges) bits ⌝ }
+{
+    let mut unseen = badges;
+    while !unseen.is_empty() {
+        let v = unseen.smallest();
+        columns[v] = columns[v] | bits;
+        let rest = unseen.rest();
+        unseen = rest;
+    }
+}
+
+// How many of the 64 ticks from one on are ticks of the day.
+fn window(from: usize, ticks: usize) -> usize
+    ensures { λ r. ⌜ r ≡ min capacity (ticks - from) ⌝ }
+{
+    if ticks <= from {
+        return 0;
+    }
+    if 64 < ticks - from {
+        return 64;
+    }
+    ticks - from
+}
+
+// For each badge v larger than u, in which of the 64 ticks from one on u and v meet: bit t is for tick from + t. The set bits of u's
+// words are walked, so a pair costs nothing in a tick in which it does not meet.
+pub(crate) fn columns_of(words: &[u64], n: usize, ticks: usize, u: usize, from: usize) -> [u64; 64]
+    requires { ⌜ Writable n ticks (now words) × (u < n) × (from ≤ maxTicks) ⌝ }
+    ensures { λ r. ⌜ Columns n (now (words .entry)) u from (min capacity (ticks - from)) r ⌝ }
+{
+    let mut columns = [0u64; 64];
+    let smaller = BadgeSet::full(u + 1);
+    let m = window(from, ticks);
+    for t in 0..m {
+        let row = BadgeSet::from_word(words[(from + t) * n + u]);
+        unite(&mut columns, row.difference(smaller), 1 << t);
+    }
+    columns
+}
