@@ -1,6 +1,7 @@
 // The cores of one graph, given as one row a badge: row u has the neighbours of badge u.
 //
-// `peel` takes rows to those of a core, with its members and their least degree; `core_numbers` and `highest_core` peel at rising orders, each from the rows that the last left.
+// `peel` takes rows to those of a core, with its members and their least degree; `core_numbers` and `highest_core` peel at rising orders, each
+// among the members that the last left.
 mod numbering;
 mod peeling;
 mod rising;

@@ -35,7 +35,7 @@ fn append_pair(
     so_far
 }
 
-// Appends the runs of u and each larger badge.
+// Appends the runs of u and each larger badge. The ticks of all these pairs are gathered first, so a pair costs little more than its runs.
 pub(crate) fn append_row(
     words: &[u64],
     n: usize,
