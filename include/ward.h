@@ -11,8 +11,8 @@
  *   - memory that is written overlaps no other memory of the same call;
  *   - `answer` points to five numbers.
  *
- * A call uses the caller's stack, as it was measured and not proved: ward_read under 1 KB, ward_core_numbers 3, ward_write 48, ward_tidy 51,
- * ward_plan 63, ward_report 111.
+ * A call uses the caller's stack, as it was measured (tests/stack-use.sh) and not proved: ward_read under 1 KB, ward_core_numbers 3, ward_plan
+ * 31, ward_write 49, ward_tidy 49, ward_report 62.
  *
  * Every call writes all five numbers of `answer`. On a refusal the first is its number and the second its byte offset, and the others are
  * 0; a refused call changes nothing else, except that ward_tidy refused by WARD_BUFFER_TOO_SHORT or WARD_TIDY_TOO_MANY leaves the day in
