@@ -15,10 +15,10 @@ use Rattle.sets.specs.Tables.{keepIf}
 use Rattle.sets.proofs.Bools.{clash}
 use Rattle.sets.proofs.Concat.{concat-same, keep-nil}
 use Rattle.records.specs.Limits.{maxTicks}
-use Rattle.spans.specs.SpanCores.{SpanCore, topOn}
+use Rattle.spans.specs.SpanCores.{SpanCore}
+use Rattle.spans.specs.Plans.{scoreOn}
 use Rattle.spans.specs.Reports.{groupsOn, groupsFrom}
-use Rattle.spans.specs.LongerSpans.{topAfter}
-use Rattle.spans.proofs.Maximal.{score-before-none, score-before-more, score-zero, after-yes, after-no, groups-on}
+use Rattle.spans.proofs.Maximal.{score-before-none, score-before-more, scoreAfter, after-yes, after-no, groups-on}
 use Rattle.groups.specs.Lines.{ScoresBefore, LineFound}
 use Rattle.groups.specs.Appending.{lineList}
 
@@ -44,15 +44,12 @@ pub line-list : {n T : ℕ} {ws : List ℕ} {first : ℕ} {orders orders′ memb
 unfolding lineList groupsFrom
 line-list {n} {T} {ws} {first} {orders} {orders′} {members′} b f = concat-same T _ _ (λ last m. cell last m (leb first last) refl)
   where
-    top : (last : ℕ) → first ≤ last → last < T → getD orders′ last 0 ≡ topOn n ws first last
-    top last l m = f .score last l m ∙ score-zero n ws first last
-
-    next : (last : ℕ) → first ≤ last → last < T → getD orders′ (suc last) 0 ≡ topAfter n T ws first last
+    next : (last : ℕ) → first ≤ last → last < T → getD orders′ (suc last) 0 ≡ scoreAfter n T ws 0 first last
     next last l m = by-cases (decLt (suc last) T)
-        (λ h. top (suc last) (omega arith) h ∙ sym (after-yes n T ws first last h))
+        (λ h. f .score (suc last) (omega arith) h ∙ sym (after-yes n T ws 0 first last h))
         (λ h.
         let e : suc last ≡ T = omega arith in
-        ap (λ (x : ℕ). getD orders′ x 0) e ∙ f .after T (le-refl T) ∙ b .end ∙ sym (after-no n T ws first last (omega arith)))
+        ap (λ (x : ℕ). getD orders′ x 0) e ∙ f .after T (le-refl T) ∙ b .end ∙ sym (after-no n T ws 0 first last (omega arith)))
 
     made : ℕ → List SpanCore
     made last =
@@ -62,4 +59,4 @@ line-list {n} {T} {ws} {first} {orders} {orders′} {members′} b f = concat-sa
     cell last m false e = keep-nil _ _ (λ f. clash f e) ∙ sym (keep-nil _ _ (λ f. clash f e))
     cell last m true e =
         let l = leb-true _ _ e in
-        ap (keepIf (leb first last)) (rw (top last l m, next last l m, f .new last l m) (sym (groups-on n T ws first last l m)))
+        ap (keepIf (leb first last)) (rw (f .score last l m, next last l m, f .new last l m) (sym (groups-on n T ws first last l m)))

@@ -16,7 +16,7 @@ use Rattle.days.specs.Calls.{checkOf}
 use Rattle.days.proofs.Checks.{check-passed}
 use Rattle.log.specs.Buffers.{deliver}
 use Rattle.log.proofs.Delivering.{deliver-refused, deliver-passed}
-use Rattle.cores.specs.Graphs.{FewerPairs}
+use Rattle.cores.proofs.Degrees.{FewerPairs}
 use Rattle.cores.specs.Rows.{graph, coreNumbers}
 use Rattle.cores.proofs.Orders.{number-same}
 use Rattle.spans.specs.Spans.{isSpan, SpanOfDay, spanNeighbours, spanRows}

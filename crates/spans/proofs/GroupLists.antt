@@ -20,7 +20,7 @@ use Rattle.spans.specs.SpanCores.{SpanCore, Mem, coreOn, hasCore}
 use Rattle.spans.specs.Reports.{isMaximal, isGroup, groupsOn, groupsFrom, groupsOf}
 use Rattle.spans.specs.GroupStatement.{Unsurpassed, Has, GroupStatement}
 use Rattle.spans.proofs.OrderSets.{order-cohesive, cohesive-order}
-use Rattle.spans.proofs.Maximal.{top-le, maximal-of, maximal-in, group-of, groups-on}
+use Rattle.spans.proofs.Maximal.{score-on-le, maximal-of, maximal-in, group-of, groups-on}
 
 -- What is in the list: exactly the groups of the day's spans, with the members of their cores.
 pub record Shown (n T : ℕ) (ws : List ℕ) (c : SpanCore) : Type 0 where
@@ -46,7 +46,7 @@ module _ (n T : ℕ) (ws : List ℕ) where
   unfolding groupsOf groupsFrom groupsOn
   in-groups k first last m w g =
       in-concat T (groupsFrom n T ws) first (omega arith)
-      (in-concat T _ last w (in-keep _ _ (le-leb _ _ m) (in-concat (suc n) _ k (suc-le-suc (omega (arith, group-of n T ws first last m w k g .0, top-le n ws first last))) (in-keep _ _ g (List·Memᴰ·head refl)))))
+      (in-concat T _ last w (in-keep _ _ (le-leb _ _ m) (in-concat (suc n) _ k (suc-le-suc (omega (arith, group-of n T ws first last m w k g .0, score-on-le n ws 0 first last))) (in-keep _ _ g (List·Memᴰ·head refl)))))
 
 -- a core of order k is there on a span of the day exactly when some set of order k is; it is such a set and holds every other
 module _ {n T : ℕ} {ws : List ℕ} {first last : ℕ} (d : SpanOfDay n T ws first last) (k : ℕ) where

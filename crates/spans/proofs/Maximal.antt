@@ -13,47 +13,28 @@ use Rattle.sets.specs.Bools.{_and_, _or_, isnt}
 use Rattle.sets.specs.Sets.{full}
 use Rattle.sets.specs.Tables.{concatBelow, keepIf}
 use Rattle.sets.proofs.Bools.{clash, and-in, and-left, and-right, or-left, or-right, or-of, isnt-in, isnt-of, all-in, all-of}
-use Rattle.sets.proofs.Sets.{sub-refl, sub-trans, sub-pos}
+use Rattle.sets.proofs.Sets.{none-sub, sub-refl, sub-trans, sub-pos}
 use Rattle.sets.proofs.Size.{size-full}
 use Rattle.sets.proofs.Concat.{concat-nil, concat-only, keep-nil, keep-all}
-use Rattle.cores.specs.Orders.{score}
-use Rattle.cores.proofs.Cores.{core-mono, core-order}
-use Rattle.cores.proofs.Orders.{contains-of, contains-in, score-of, score-in, score-le, top-of, top-in, top-score}
+use Rattle.cores.proofs.Cores.{core-mono}
+use Rattle.cores.proofs.Orders.{contains-of, contains-in, score-of, score-in, score-le}
 use Rattle.spans.specs.Spans.{isSpan, spanNeighbours}
-use Rattle.spans.specs.SpanCores.{SpanCore, coreOn, hasCore, topOn}
+use Rattle.spans.specs.SpanCores.{SpanCore, coreOn, hasCore}
 use Rattle.spans.specs.Plans.{scoreOn}
 use Rattle.spans.specs.Reports.{asLarge, same, isMaximal, isGroup, groupsOn}
-use Rattle.spans.specs.LongerSpans.{scoreBefore, topBefore, topAfter, newMembers}
+use Rattle.spans.specs.LongerSpans.{scoreBefore, newMembers}
 use Rattle.spans.proofs.SpanRows.{span-fewer, span-in, span-of}
 
--- a core of order k is there exactly up to the largest order of the span
-pub has-top : (n : ℕ) (ws : List ℕ) (k first last : ℕ) → 1 ≤ k → k ≤ topOn n ws first last → hasCore n ws k first last ≡ true
-unfolding hasCore coreOn topOn
-has-top n ws k first last l h = lt-ltb _ _ (top-of (spanNeighbours n ws first last) (full n) k l h)
+-- a core of order k is there exactly up to the largest order of the span, which is the score of the empty query
+pub has-score : (n : ℕ) (ws : List ℕ) (k first last : ℕ) → 1 ≤ k → k ≤ scoreOn n ws 0 first last → hasCore n ws k first last ≡ true
+unfolding hasCore coreOn scoreOn
+has-score n ws k first last l h = lt-ltb _ _ (contains-of _ _ 0 k (score-of (spanNeighbours n ws first last) (full n) 0 k l h) .0)
 
-pub top-has : (n : ℕ) (ws : List ℕ) (k first last : ℕ) → hasCore n ws k first last ≡ true → k ≤ topOn n ws first last
-unfolding hasCore coreOn topOn
-top-has n ws k first last e = top-in (spanNeighbours n ws first last) (full n) k (ltb-true _ _ e)
+pub score-has : (n : ℕ) (ws : List ℕ) (k first last : ℕ) → hasCore n ws k first last ≡ true → k ≤ scoreOn n ws 0 first last
+unfolding hasCore coreOn scoreOn
+score-has n ws k first last e = score-in (spanNeighbours n ws first last) (full n) 0 k (contains-in _ _ 0 k (ltb-true _ _ e) (none-sub _))
 
--- no order of a core is above n
-pub top-le : (n : ℕ) (ws : List ℕ) (first last : ℕ) → topOn n ws first last ≤ n
-unfolding topOn
-top-le n ws first last = go (topOn n ws first last) refl
-  where
-    go : (k : ℕ) → topOn n ws first last ≡ k → k ≤ n
-    go zero e = zero-le
-    go (suc k) e = omega (arith, core-order (spanNeighbours n ws first last) (full n) (suc k) (top-of (spanNeighbours n ws first last) (full n) (suc k) (suc-le-suc zero-le) (omega arith)), size-full n)
-
--- the largest order on the span that is one tick longer at its start, if there is one
-pub before-none : (n : ℕ) (ws : List ℕ) (last : ℕ) → topBefore n ws 0 last ≡ 0
-unfolding topBefore
-before-none n ws last = refl
-
-pub before-more : (n : ℕ) (ws : List ℕ) (first last : ℕ) → topBefore n ws (suc first) last ≡ topOn n ws first last
-unfolding topBefore
-before-more n ws first last = refl
-
--- the score of a query on that span
+-- the score of a query on the span that is one tick longer at its start, if there is one
 pub score-before-none : (n : ℕ) (ws : List ℕ) (query last : ℕ) → scoreBefore n ws query 0 last ≡ 0
 unfolding scoreBefore
 score-before-none n ws query last = refl
@@ -75,26 +56,6 @@ score-falls n ws query first last first′ last′ l r = go (scoreOn n ws query 
         let f = core-mono (full n) (full n) (suc k) (suc k) (sub-refl _) (span-fewer n ws (full n) first last first′ last′ l r) (le-refl _) in
         score-in _ _ query (suc k) (contains-in _ _ query (suc k) (sub-pos f (c .0)) (sub-trans (c .1) f))
 
--- the largest order is the score of the empty query, and so it falls too
-pub score-top : (n : ℕ) (ws : List ℕ) (first last : ℕ) → score (spanNeighbours n ws first last) (full n) 0 ≡ topOn n ws first last
-unfolding topOn
-score-top n ws first last = sym (top-score (spanNeighbours n ws first last) (full n))
-
-pub top-falls : (n : ℕ) (ws : List ℕ) (first last first′ last′ : ℕ) → first′ ≤ first → last ≤ last′ → topOn n ws first′ last′ ≤ topOn n ws first last
-unfolding scoreOn
-top-falls n ws first last first′ last′ l r =
-    let h : score (spanNeighbours n ws first′ last′) (full n) 0 ≤ score (spanNeighbours n ws first last) (full n) 0 = score-falls n ws 0 first last first′ last′ l r in
-    omega (arith, score-top n ws first last, score-top n ws first′ last′)
-
--- of the empty query, on a span and on the one that is longer at its start
-pub score-zero : (n : ℕ) (ws : List ℕ) (first last : ℕ) → scoreOn n ws 0 first last ≡ topOn n ws first last
-unfolding scoreOn
-score-zero n ws first last = score-top n ws first last
-
-before-score : (n : ℕ) (ws : List ℕ) (first last : ℕ) → scoreBefore n ws 0 first last ≡ topBefore n ws first last
-before-score n ws zero last = score-before-none n ws 0 last ∙ sym (before-none n ws last)
-before-score n ws (suc first) last = score-before-more n ws 0 first last ∙ score-zero n ws first last ∙ sym (before-more n ws first last)
-
 -- the score on the longer span is no larger, and no score is above n
 pub score-before-le : (n : ℕ) (ws : List ℕ) (query first last : ℕ) → scoreBefore n ws query first last ≤ scoreOn n ws query first last
 score-before-le n ws query zero last = omega (arith, score-before-none n ws query last)
@@ -104,14 +65,17 @@ pub score-on-le : (n : ℕ) (ws : List ℕ) (query first last : ℕ) → scoreOn
 unfolding scoreOn
 score-on-le n ws query first last = omega (arith, score-le (spanNeighbours n ws first last) (full n) query, size-full n)
 
--- the largest order on the span that is one tick longer at its end, if there is one
-pub after-yes : (n T : ℕ) (ws : List ℕ) (first last : ℕ) → suc last < T → topAfter n T ws first last ≡ topOn n ws first (suc last)
-unfolding topAfter
-after-yes n T ws first last h = rw (lt-ltb (suc last) T h, topAfter)
+-- the score of a query on the span that is one tick longer at its end, 0 where there is none
+unfoldable pub scoreAfter : ℕ → ℕ → List ℕ → ℕ → ℕ → ℕ → ℕ
+scoreAfter n T ws query first last = elim (ltb (suc last) T) [ true ↦ scoreOn n ws query first (suc last) | false ↦ 0 ]
 
-pub after-no : (n T : ℕ) (ws : List ℕ) (first last : ℕ) → T ≤ suc last → topAfter n T ws first last ≡ 0
-unfolding topAfter
-after-no n T ws first last h = rw (le-ltb (suc last) T h, topAfter)
+pub after-yes : (n T : ℕ) (ws : List ℕ) (query first last : ℕ) → suc last < T → scoreAfter n T ws query first last ≡ scoreOn n ws query first (suc last)
+unfolding scoreAfter
+after-yes n T ws query first last h = rw (lt-ltb (suc last) T h, scoreAfter)
+
+pub after-no : (n T : ℕ) (ws : List ℕ) (query first last : ℕ) → T ≤ suc last → scoreAfter n T ws query first last ≡ 0
+unfolding scoreAfter
+after-no n T ws query first last h = rw (le-ltb (suc last) T h, scoreAfter)
 
 -- the three tests of a core that is at least as large, and not the same
 large-in : (k first last k′ first′ last′ : ℕ) → k ≤ k′ → first′ ≤ first → last ≤ last′ → asLarge k first last k′ first′ last′ ≡ true
@@ -135,7 +99,7 @@ module _ (n T : ℕ) (ws : List ℕ) (k first last : ℕ) where
   pub maximal-of : isMaximal n T ws k first last ≡ true
       → (k′ first′ last′ : ℕ) → first′ ≤ last′ → last′ < T → k ≤ k′ → first′ ≤ first → last ≤ last′ → hasCore n ws k′ first′ last′ ≡ true → (k′ ≡ k) × (first′ ≡ first) × (last′ ≡ last)
   unfolding isMaximal
-  maximal-of e k′ first′ last′ m w a b c h = go (or-of _ _ (all-of T _ (all-of T _ (all-of (suc n) _ e k′ (suc-le-suc (le-trans (top-has n ws k′ first′ last′ h) (top-le n ws first′ last′)))) first′ (omega arith)) last′ w))
+  maximal-of e k′ first′ last′ m w a b c h = go (or-of _ _ (all-of T _ (all-of T _ (all-of (suc n) _ e k′ (suc-le-suc (le-trans (score-has n ws k′ first′ last′ h) (score-on-le n ws 0 first′ last′)))) first′ (omega arith)) last′ w))
     where
       go : (isnt (isSpan T first′ last′ and asLarge k first last k′ first′ last′ and hasCore n ws k′ first′ last′) ≡ true) ⊎ (same k first last k′ first′ last′ ≡ true) → (k′ ≡ k) × (first′ ≡ first) × (last′ ≡ last)
       go (inl x) = absurd (isnt-of _ x (and-in _ _ (and-in _ _ (span-in T first′ last′ m w) (large-in k first last k′ first′ last′ a b c)) h))
@@ -157,7 +121,7 @@ module _ (n T : ℕ) (ws : List ℕ) (k first last : ℕ) where
 
 -- On a span of the day: a group's order is the largest of the span and above those of the two spans that are one tick longer,
 module _ (n T : ℕ) (ws : List ℕ) (first last : ℕ) (m : first ≤ last) (w : last < T) where
-  pub group-of : (k : ℕ) → isGroup n T ws k first last ≡ true → (k ≡ topOn n ws first last) × (topBefore n ws first last < k) × (topAfter n T ws first last < k)
+  pub group-of : (k : ℕ) → isGroup n T ws k first last ≡ true → (k ≡ scoreOn n ws 0 first last) × (scoreBefore n ws 0 first last < k) × (scoreAfter n T ws 0 first last < k)
   unfolding isGroup
   group-of k e = (own, before first refl, after (decLt (suc last) T))
     where
@@ -170,49 +134,49 @@ module _ (n T : ℕ) (ws : List ℕ) (first last : ℕ) (m : first ≤ last) (w 
       x : (k′ first′ last′ : ℕ) → first′ ≤ last′ → last′ < T → k ≤ k′ → first′ ≤ first → last ≤ last′ → hasCore n ws k′ first′ last′ ≡ true → (k′ ≡ k) × (first′ ≡ first) × (last′ ≡ last)
       x = maximal-of n T ws k first last (and-right _ _ e)
 
-      own : k ≡ topOn n ws first last
+      own : k ≡ scoreOn n ws 0 first last
       own =
-          let t = top-has n ws k first last h in
-          sym (x (topOn n ws first last) first last m w t (le-refl first) (le-refl last) (has-top n ws (topOn n ws first last) first last (le-trans l t) (le-refl _)) .0)
+          let t = score-has n ws k first last h in
+          sym (x (scoreOn n ws 0 first last) first last m w t (le-refl first) (le-refl last) (has-score n ws (scoreOn n ws 0 first last) first last (le-trans l t) (le-refl _)) .0)
 
-      before : (a : ℕ) → first ≡ a → topBefore n ws first last < k
-      before zero f = rw (f, before-none n ws last) l
-      before (suc a) f = rw (f, before-more n ws a last) (below (decLe k (topOn n ws a last)))
+      before : (a : ℕ) → first ≡ a → scoreBefore n ws 0 first last < k
+      before zero f = rw (f, score-before-none n ws 0 last) l
+      before (suc a) f = rw (f, score-before-more n ws 0 a last) (below (decLe k (scoreOn n ws 0 a last)))
         where
-          below : Dec (k ≤ topOn n ws a last) → topOn n ws a last < k
-          below (yes g) = absurd (let r = x k a last (omega arith) w (le-refl k) (omega arith) (le-refl last) (has-top n ws k a last l g) in omega (arith, r .1))
+          below : Dec (k ≤ scoreOn n ws 0 a last) → scoreOn n ws 0 a last < k
+          below (yes g) = absurd (let r = x k a last (omega arith) w (le-refl k) (omega arith) (le-refl last) (has-score n ws k a last l g) in omega (arith, r .1))
           below (no g) = omega arith
 
-      after : Dec (suc last < T) → topAfter n T ws first last < k
-      after (no g) = rw (after-no n T ws first last (omega arith)) l
-      after (yes g) = rw (after-yes n T ws first last g) (below (decLe k (topOn n ws first (suc last))))
+      after : Dec (suc last < T) → scoreAfter n T ws 0 first last < k
+      after (no g) = rw (after-no n T ws 0 first last (omega arith)) l
+      after (yes g) = rw (after-yes n T ws 0 first last g) (below (decLe k (scoreOn n ws 0 first (suc last))))
         where
-          below : Dec (k ≤ topOn n ws first (suc last)) → topOn n ws first (suc last) < k
-          below (yes g′) = absurd (let r = x k first (suc last) (omega arith) g (le-refl k) (le-refl first) (omega arith) (has-top n ws k first (suc last) l g′) in omega (arith, r .2))
+          below : Dec (k ≤ scoreOn n ws 0 first (suc last)) → scoreOn n ws 0 first (suc last) < k
+          below (yes g′) = absurd (let r = x k first (suc last) (omega arith) g (le-refl k) (le-refl first) (omega arith) (has-score n ws k first (suc last) l g′) in omega (arith, r .2))
           below (no g′) = omega arith
 
   -- and such an order is a group's.
-  pub group-in : topBefore n ws first last < topOn n ws first last → topAfter n T ws first last < topOn n ws first last → isGroup n T ws (topOn n ws first last) first last ≡ true
+  pub group-in : scoreBefore n ws 0 first last < scoreOn n ws 0 first last → scoreAfter n T ws 0 first last < scoreOn n ws 0 first last → isGroup n T ws (scoreOn n ws 0 first last) first last ≡ true
   unfolding isGroup
   group-in b a =
-      let l : 1 ≤ topOn n ws first last = omega arith in
-      and-in _ _ (and-in _ _ (le-leb _ _ l) (has-top n ws _ first last l (le-refl _))) (maximal-in n T ws _ first last (λ k′ first′ last′ p q u v z h. go k′ first′ last′ q u (eq-or-lt-of-le v) (eq-or-lt-of-le z) h))
+      let l : 1 ≤ scoreOn n ws 0 first last = omega arith in
+      and-in _ _ (and-in _ _ (le-leb _ _ l) (has-score n ws _ first last l (le-refl _))) (maximal-in n T ws _ first last (λ k′ first′ last′ p q u v z h. go k′ first′ last′ q u (eq-or-lt-of-le v) (eq-or-lt-of-le z) h))
     where
-      before : (f first′ last′ : ℕ) → first ≡ suc f → first′ ≤ f → last ≤ last′ → topOn n ws first′ last′ ≤ topBefore n ws first last
-      before f first′ last′ e g z = rw (e, before-more n ws f last) (top-falls n ws f last first′ last′ g z)
+      before : (f first′ last′ : ℕ) → first ≡ suc f → first′ ≤ f → last ≤ last′ → scoreOn n ws 0 first′ last′ ≤ scoreBefore n ws 0 first last
+      before f first′ last′ e g z = rw (e, score-before-more n ws 0 f last) (score-falls n ws 0 f last first′ last′ g z)
 
-      go : (k′ first′ last′ : ℕ) → last′ < T → topOn n ws first last ≤ k′ → (first′ ≡ first) ⊎ (first′ < first) → (last ≡ last′) ⊎ (last < last′) → hasCore n ws k′ first′ last′ ≡ true
-          → (k′ ≡ topOn n ws first last) × (first′ ≡ first) × (last′ ≡ last)
+      go : (k′ first′ last′ : ℕ) → last′ < T → scoreOn n ws 0 first last ≤ k′ → (first′ ≡ first) ⊎ (first′ < first) → (last ≡ last′) ⊎ (last < last′) → hasCore n ws k′ first′ last′ ≡ true
+          → (k′ ≡ scoreOn n ws 0 first last) × (first′ ≡ first) × (last′ ≡ last)
       go k′ first′ last′ q u (inl e) (inl f) h =
-          let t : k′ ≤ topOn n ws first last = rw (e, ← f) at (top-has n ws k′ first′ last′ h) in
+          let t : k′ ≤ scoreOn n ws 0 first last = rw (e, ← f) at (score-has n ws k′ first′ last′ h) in
           (omega arith, e, sym f)
       go k′ first′ last′ q u (inl e) (inr f) h =
-          absurd (omega (arith, top-has n ws k′ first′ last′ h, top-falls n ws first (suc last) first′ last′ (omega arith) f, after-yes n T ws first last (omega arith)))
+          absurd (omega (arith, score-has n ws k′ first′ last′ h, score-falls n ws 0 first (suc last) first′ last′ (omega arith) f, after-yes n T ws 0 first last (omega arith)))
       go k′ first′ last′ q u (inr e) z h = absurd (longer first refl)
         where
           longer : (c : ℕ) → first ≡ c → ⊥
           longer zero g = omega arith
-          longer (suc c) g = omega (arith, top-has n ws k′ first′ last′ h, before c first′ last′ g (omega arith) (le z))
+          longer (suc c) g = omega (arith, score-has n ws k′ first′ last′ h, before c first′ last′ g (omega arith) (le z))
             where
               le : (last ≡ last′) ⊎ (last < last′) → last ≤ last′
               le (inl y) = omega arith
@@ -231,34 +195,34 @@ module _ (n : ℕ) (ws : List ℕ) (query first last : ℕ) where
 -- So the groups on a span are the one with these members, of the largest order, if there are any and the order is above that after it.
 pub groups-on : (n T : ℕ) (ws : List ℕ) (first last : ℕ) → first ≤ last → last < T
     → groupsOn n T ws first last
-    ≡ keepIf (ltb 0 (newMembers n ws 0 first last) and ltb (topAfter n T ws first last) (topOn n ws first last)) (record { order = topOn n ws first last; first = first; last = last; members = newMembers n ws 0 first last } ∷ [])
+    ≡ keepIf (ltb 0 (newMembers n ws 0 first last) and ltb (scoreAfter n T ws 0 first last) (scoreOn n ws 0 first last)) (record { order = scoreOn n ws 0 first last; first = first; last = last; members = newMembers n ws 0 first last } ∷ [])
 unfolding groupsOn hasCore
-groups-on n T ws first last m w = by-cases (decLt (max (topBefore n ws first last) (topAfter n T ws first last)) (topOn n ws first last)) yes′ no′
+groups-on n T ws first last m w = by-cases (decLt (max (scoreBefore n ws 0 first last) (scoreAfter n T ws 0 first last)) (scoreOn n ws 0 first last)) yes′ no′
   where
     t : ℕ
-    t = topOn n ws first last
+    t = scoreOn n ws 0 first last
 
     at : ℕ → List SpanCore
     at k = keepIf (isGroup n T ws k first last) (record { order = k; first = first; last = last; members = coreOn n ws k first last } ∷ [])
 
-    yes′ : max (topBefore n ws first last) (topAfter n T ws first last) < t
-        → concatBelow (suc n) at ≡ keepIf (ltb 0 (newMembers n ws 0 first last) and ltb (topAfter n T ws first last) t) (record { order = t; first = first; last = last; members = newMembers n ws 0 first last } ∷ [])
+    yes′ : max (scoreBefore n ws 0 first last) (scoreAfter n T ws 0 first last) < t
+        → concatBelow (suc n) at ≡ keepIf (ltb 0 (newMembers n ws 0 first last) and ltb (scoreAfter n T ws 0 first last) t) (record { order = t; first = first; last = last; members = newMembers n ws 0 first last } ∷ [])
     yes′ h =
         let g = group-in n T ws first last m w (omega arith) (omega arith) in
         let e : newMembers n ws 0 first last ≡ coreOn n ws t first last =
-        new-yes n ws 0 first last (omega (arith, before-score n ws first last, score-zero n ws first last)) ∙ ap (λ (k : ℕ). coreOn n ws k first last) (score-zero n ws first last) in
-        let p : ltb 0 (coreOn n ws t first last) ≡ true = has-core (has-top n ws t first last (omega arith) (le-refl _)) in
-        concat-only (suc n) at t (suc-le-suc (top-le n ws first last)) (λ k l d. keep-nil _ _ (λ f. d (group-of n T ws first last m w k f .0)))
-        ∙ keep-all _ _ g ∙ rw e (sym (keep-all _ _ (and-in _ _ p (lt-ltb (topAfter n T ws first last) t (omega arith)))))
+        new-yes n ws 0 first last (omega arith) in
+        let p : ltb 0 (coreOn n ws t first last) ≡ true = has-core (has-score n ws t first last (omega arith) (le-refl _)) in
+        concat-only (suc n) at t (suc-le-suc (score-on-le n ws 0 first last)) (λ k l d. keep-nil _ _ (λ f. d (group-of n T ws first last m w k f .0)))
+        ∙ keep-all _ _ g ∙ rw e (sym (keep-all _ _ (and-in _ _ p (lt-ltb (scoreAfter n T ws 0 first last) t (omega arith)))))
       where
         has-core : hasCore n ws t first last ≡ true → ltb 0 (coreOn n ws t first last) ≡ true
         has-core f = f
 
-    no′ : (max (topBefore n ws first last) (topAfter n T ws first last) < t → ⊥)
-        → concatBelow (suc n) at ≡ keepIf (ltb 0 (newMembers n ws 0 first last) and ltb (topAfter n T ws first last) t) (record { order = t; first = first; last = last; members = newMembers n ws 0 first last } ∷ [])
+    no′ : (max (scoreBefore n ws 0 first last) (scoreAfter n T ws 0 first last) < t → ⊥)
+        → concatBelow (suc n) at ≡ keepIf (ltb 0 (newMembers n ws 0 first last) and ltb (scoreAfter n T ws 0 first last) t) (record { order = t; first = first; last = last; members = newMembers n ws 0 first last } ∷ [])
     no′ h =
         concat-nil (suc n) at (λ k l. keep-nil _ _ (λ f. let r = group-of n T ws first last m w k f in h (omega (arith, r .0, r .1, r .2))))
         ∙ sym (keep-nil _ _ (λ f.
         let a = ltb-true 0 (newMembers n ws 0 first last) (and-left _ _ f) in
-        let b = ltb-true (topAfter n T ws first last) t (and-right _ _ f) in
-        omega (arith, new-no n ws 0 first last (omega (arith, before-score n ws first last, score-zero n ws first last)))))
+        let b = ltb-true (scoreAfter n T ws 0 first last) t (and-right _ _ f) in
+        omega (arith, new-no n ws 0 first last (omega arith))))

@@ -17,7 +17,7 @@ use Rattle.sets.proofs.Bools.{and-in, and-left, and-right, or-left, or-right, o
 use Rattle.sets.proofs.Sets.{in-test, has-test, in-set, of-set, of-set-lt, in-full, of-full}
 use Rattle.sets.proofs.Tables.{tabulate-length, tabulate-at, piecewise-in, piecewise-out}
 use Rattle.days.specs.Days.{neighbours, adjacent}
-use Rattle.cores.specs.Graphs.{FewerPairs}
+use Rattle.cores.proofs.Degrees.{FewerPairs}
 use Rattle.spans.specs.Spans.{isSpan, throughout, spanNeighbours, spanRows}
 
 -- the test for a span of the day passes exactly when first is not after last and last is below T

@@ -1,23 +1,15 @@
--- The spans that are one tick longer than a span, and what they decide.
+-- The span that is one tick longer than a span at its start, and what is new on the shorter one.
 use mathlib.Core.Bool.{true, false}
 use mathlib.Core.List.{List}
 use Prim.Native.Nat.{ℕ, zero, suc}
 use lib.Dec.{ltb}
-use Rattle.spans.specs.SpanCores.{coreOn, topOn}
+use Rattle.spans.specs.SpanCores.{coreOn}
 use Rattle.spans.specs.Plans.{scoreOn}
 
 -- the score of a query on the span that is one tick longer at its start, 0 where there is none
 unfoldable pub scoreBefore : ℕ → List ℕ → ℕ → ℕ → ℕ → ℕ
 scoreBefore n ws query zero last = 0
 scoreBefore n ws query (suc first) last = scoreOn n ws query first last
-
--- the largest orders on the two spans that are one tick longer, 0 where there is none
-unfoldable pub topBefore : ℕ → List ℕ → ℕ → ℕ → ℕ
-topBefore n ws zero last = 0
-topBefore n ws (suc first) last = topOn n ws first last
-
-unfoldable pub topAfter : ℕ → ℕ → List ℕ → ℕ → ℕ → ℕ
-topAfter n T ws first last = elim (ltb (suc last) T) [ true ↦ topOn n ws first (suc last) | false ↦ 0 ]
 
 -- the members of the core of a query's score on a span, where that is above the score on the span that is longer at its start; none elsewhere
 unfoldable pub newMembers : ℕ → List ℕ → ℕ → ℕ → ℕ → ℕ

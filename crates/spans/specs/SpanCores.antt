@@ -6,7 +6,6 @@ use Prim.Native.Nat.{ℕ}
 use lib.Dec.{ltb}
 use Rattle.sets.specs.Sets.{full}
 use Rattle.cores.specs.Cores.{core}
-use Rattle.cores.specs.Orders.{topOrder}
 use Rattle.spans.specs.Spans.{spanNeighbours}
 
 pub record SpanCore : Type 0 where
@@ -24,7 +23,3 @@ coreOn n ws k first last = core (spanNeighbours n ws first last) (full n) k
 
 unfoldable pub hasCore : ℕ → List ℕ → ℕ → ℕ → ℕ → Bool
 hasCore n ws k first last = ltb 0 (coreOn n ws k first last)
-
--- the largest order of a core on a span, 0 where there is none
-unfoldable pub topOn : ℕ → List ℕ → ℕ → ℕ → ℕ
-topOn n ws first last = topOrder (spanNeighbours n ws first last) (full n)

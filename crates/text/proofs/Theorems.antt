@@ -23,7 +23,7 @@ use Rattle.spans.specs.Reports.{groupsOf}
 use Rattle.spans.specs.Encoding.{maxGroups, maxReportBytes}
 use Rattle.spans.proofs.GroupLists.{of-groups, group-parts}
 use Rattle.spans.proofs.MostGroups.{groups-few}
-use Rattle.spans.proofs.Maximal.{top-has, top-le}
+use Rattle.spans.proofs.Maximal.{score-has, score-on-le}
 use Rattle.text.specs.Listing.{refusalLine, groupLine, reportLines, judgedLines, joined, listing}
 use Rattle.text.specs.Pieces.{linesIn, bytesIn, pieceOf, pieces}
 use Rattle.text.specs.Calls.{prepareOf, shownLines}
@@ -93,7 +93,7 @@ module _ (n T : ℕ) (ws : List ℕ) (few : n ≤ 64) (short : T ≤ 96) where
   group-line-short c i =
       let s = of-groups n T ws c i in
       let p = group-parts n T ws (c .order) (c .first) (c .last) (s .group) in
-      group-short c (omega (arith, top-has n ws (c .order) (c .first) (c .last) (p .1), top-le n ws (c .first) (c .last))) (omega (arith, s .rising, s .inside)) (omega (arith, s .inside))
+      group-short c (omega (arith, score-has n ws (c .order) (c .first) (c .last) (p .1), score-on-le n ws 0 (c .first) (c .last))) (omega (arith, s .rising, s .inside)) (omega (arith, s .inside))
 
   report-line-short : (l : List ℕ) → List·Memᴰ l (reportLines n T (groupsOf n T ws)) → length l ≤ lineRoom
   unfolding reportLines
