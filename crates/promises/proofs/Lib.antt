@@ -5,15 +5,17 @@ pub mod ReadTheorems
 pub mod TidyCount
 pub mod TidyTheorems
 pub mod WriteTheorems
--- substitutes for reading and tidying
+-- small logs and days, on which substitutes are tried
 pub mod SmallLogs
+pub mod SmallDays
+-- substitutes for reading, tidying and writing
 pub mod ReadSubstitutes
 pub mod TidySubstitutes
+pub mod WriteSubstitutes
 -- core numbers; and words after the day, for the report and the plan
 pub mod NumberTheorems
 pub mod WordsAfter
 -- substitutes for core numbers, the report and the plan
-pub mod SmallDays
 pub mod NumberSubstitutes
 pub mod ReportSubstitutes
 pub mod PlanSubstitutes

@@ -2,7 +2,7 @@
 -- the call keeps (PlanStatement in spans, ShiftPlans in groups).
 use mathlib.Core.Path.{_≡_, refl, sym, ap, _∙_}
 use mathlib.Core.List.{List, [], _∷_, _++_, append-assoc, List·Memᴰ·head, List·Memᴰ·tail}
-use Prim.Native.Nat.{ℕ, _+_, _-_, _*_, _≤_, _<_}
+use Prim.Native.Nat.{ℕ, suc, _+_, _-_, _*_, _≤_, _<_}
 use native.Mathlib.Omega.{arith}
 use lib.ListN.{length, getD, take, drop, replicate, length-append, length-replicate}
 use lib.Seq.{take-at}
@@ -23,7 +23,7 @@ use Rattle.spans.specs.Spans.{SpanOfDay}
 use Rattle.spans.specs.Contacts.{fellows}
 use Rattle.spans.specs.SpanCores.{SpanCore, Mem}
 use Rattle.spans.specs.Plans.{scoreOn, partsFrom}
-use Rattle.spans.specs.Encoding.{encodeCores, planBytes}
+use Rattle.spans.specs.Encoding.{encodeCores, planBytes, planRecords}
 use Rattle.spans.specs.PlanStatement.{Runs, none, run, sumOfOrders, PlanStatement, PlanAsked}
 use Rattle.spans.proofs.Encoding.{encode-cores-length}
 use Rattle.spans.proofs.Decoding.{last-four}
@@ -72,36 +72,11 @@ turning-rest : scoreOn 3 turning 1 1 3 ≡ 0
 unfolding computing
 turning-rest = refl
 
--- A careless cut: after tick 0, with whatever scores and members.
-pub careless-cut : (a b s t : ℕ)
-    → PlanStatement 3 4 turning (full 3) 1 2 (record { order = a; first = 0; last = 0; members = s } ∷ record { order = b; first = 1; last = 3; members = t } ∷ []) → ⊥
-unfolding sumOfOrders
-careless-cut a b s t p = omega (
-  arith,
-  order-le 1 (turning-span 0 0 (omega arith) (omega arith)) (p .cutting .within _ (List·Memᴰ·head refl)) (p .cutting .holds _ (List·Memᴰ·head refl)) (p .cutting .least _ (List·Memᴰ·head refl)),
-  order-le 1 (turning-span 1 3 (omega arith) (omega arith)) (p .cutting .within _ second) (p .cutting .holds _ second) (p .cutting .least _ second),
-  turning-first,
-  turning-rest,
-  turning-sum,
-  sums-same _ _ turning-stated p,
-)
-  where
-    second : Mem (record { order = b; first = 1; last = 3; members = t }) (record { order = a; first = 0; last = 0; members = s } ∷ record { order = b; first = 1; last = 3; members = t } ∷ [])
-    second = List·Memᴰ·tail (List·Memᴰ·head refl)
-
--- Members that are not the core: D1 around badge 2 in one part, of score 1. No set with a member that has no fellow member can be shown,
-pub members-not-the-core : (s u : ℕ) → In s u → size (fellows 4 d1Words 0 2 s u) ≡ 0
-    → PlanStatement 4 3 d1Words (full 4) 4 1 (record { order = 1; first = 0; last = 2; members = s } ∷ []) → ⊥
-members-not-the-core s u i e p = omega (arith, e, p .cutting .least (record { order = 1; first = 0; last = 2; members = s }) (List·Memᴰ·head refl) .each u i)
-
--- so not the query by itself, and not all badges
-pub members-the-query : PlanStatement 4 3 d1Words (full 4) 4 1 (record { order = 1; first = 0; last = 2; members = 4 } ∷ []) → ⊥
-unfolding computing
-members-the-query p = members-not-the-core 4 2 refl refl p
-
-pub members-all : PlanStatement 4 3 d1Words (full 4) 4 1 (record { order = 1; first = 0; last = 2; members = 15 } ∷ []) → ⊥
-unfolding computing
-members-all p = members-not-the-core 15 0 refl refl p
+-- a part of it is of an order that is no more than its run's score
+turning-order : (ps : List SpanCore) → PlanStatement 3 4 turning (full 3) 1 2 ps → (p : SpanCore) → Mem p ps → (first last : ℕ) → p .first ≡ first → p .last ≡ last → first ≤ last → last < 4
+    → p .order ≤ scoreOn 3 turning 1 first last
+turning-order ps s p i first last e f m w =
+    rw (e, f) at (order-le 1 (turning-span (p .first) (p .last) (omega arith) (omega arith)) (s .cutting .within p i) (s .cutting .holds p i) (s .cutting .least p i))
 
 -- h runs are h parts
 runs-length : {T h t : ℕ} {ps : List SpanCore} → Runs T h t ps → length ps ≡ h
@@ -120,7 +95,80 @@ plan-length n T h query ps e = omega (
   length-encode (End h),
 )
 
--- and its last four bytes say h
+-- A careless cut: after tick 0, which has the best score, and then the rest in one part, with whatever scores and members.
+pub careless-cut : (p q : SpanCore) → p .first ≡ 0 → p .last ≡ 0 → q .first ≡ 1 → q .last ≡ 3 → PlanStatement 3 4 turning (full 3) 1 2 (p ∷ q ∷ []) → ⊥
+unfolding sumOfOrders
+careless-cut p q a b c d s = omega (
+  arith,
+  turning-order _ s p (List·Memᴰ·head refl) 0 0 a b (omega arith) (omega arith),
+  turning-order _ s q (List·Memᴰ·tail (List·Memᴰ·head refl)) 1 3 c d (omega arith) (omega arith),
+  turning-first,
+  turning-rest,
+  turning-sum,
+  sums-same _ _ turning-stated s,
+)
+
+-- the first of some runs, with those after it; and none
+runs-first : {T h k t : ℕ} {ps : List SpanCore} → Runs T h t ps → h ≡ suc k → (p : SpanCore) × (rest : List SpanCore) × (ps ≡ p ∷ rest) × (p .first ≡ t) × Runs T k (suc (p .last)) rest
+runs-first none e = absurd (omega arith)
+runs-first {k = k} (run {h} {p} {ps} l r) e = let f : h ≡ k = omega arith in (p, ps, refl, refl, rw f at r)
+
+runs-none : {T h t : ℕ} {ps : List SpanCore} → Runs T h t ps → h ≡ 0 → (t ≡ T) × (ps ≡ [])
+runs-none none e = (refl, refl)
+runs-none (run l r) e = absurd (omega arith)
+
+-- the last tick of the first of some parts
+unfoldable pub firstEnd : List SpanCore → ℕ
+firstEnd [] = 0
+firstEnd (p ∷ ps) = p .last
+
+careless-stated : (ps : List SpanCore) → PlanStatement 3 4 turning (full 3) 1 2 ps → firstEnd ps ≡ 0 → ⊥
+unfolding firstEnd
+careless-stated ps s e =
+    let x = runs-first {k = 1} (s .cutting .runs) (omega arith) in
+    let y = runs-first {k = 0} (x .4) (omega arith) in
+    let z = runs-none (y .4) (omega arith) in
+    let f : ps ≡ x .0 ∷ y .0 ∷ [] = x .2 ∙ ap (λ (r : List SpanCore). x .0 ∷ r) (y .2 ∙ ap (λ (r : List SpanCore). y .0 ∷ r) (z .1)) in
+    let g : x .0 .last ≡ 0 = rw f at e in
+    careless-cut (x .0) (y .0) (x .3) g (omega (arith, y .3)) (omega (arith, z .0)) (rw f at s)
+
+-- A call that makes every first tick a part of its own, where there are more parts than one, and cuts the rest as it likes.
+pub careless-call : (call : ℕ → ℕ → List ℕ → ℕ → ℕ → List ℕ → Delivered)
+    → ((n T : ℕ) (ws : List ℕ) (query h : ℕ) (buffer : List ℕ) (size : ℕ) → PlanAsked n T ws query h → 2 ≤ h → call n T ws query h buffer .answer ≡ success size
+    → firstEnd (planRecords (take size (call n T ws query h buffer .buffer))) ≡ 0)
+    → PlansShifts call → ⊥
+careless-call call e p =
+    careless-stated (shift .parts) (shift .stated)
+    (ap firstEnd (sym (ap (λ (x : Delivered). planRecords (take (length bytes) (x .buffer))) succeeds ∙ ap planRecords (take-at bytes (drop (length bytes) lent) (length bytes) refl) ∙ shift .said))
+    ∙ e 3 4 turning 1 2 lent (length bytes) turning-asked (omega arith) (ap (λ (x : Delivered). x .answer) succeeds))
+  where
+    lent : List ℕ
+    lent = replicate 45 0
+
+    shift : PlansShift 3 4 turning 1 2 lent (call 3 4 turning 1 2 lent)
+    shift = p 3 4 turning 1 2 lent turning-asked
+
+    bytes : List ℕ
+    bytes = planBytes 3 4 2 1 (shift .parts)
+
+    succeeds : call 3 4 turning 1 2 lent ≡ record { answer = success (length bytes); buffer = bytes ++ drop (length bytes) lent }
+    succeeds = shift .succeeds (omega (arith, plan-length 3 4 2 1 (shift .parts) (runs-length (shift .stated .cutting .runs)), length-replicate {A = ℕ} 45 0))
+
+-- Members that are not the core: D1 around badge 2 in one part, of score 1. No set with a member that has no fellow member can be shown,
+pub members-not-the-core : (s u : ℕ) → In s u → size (fellows 4 d1Words 0 2 s u) ≡ 0
+    → PlanStatement 4 3 d1Words (full 4) 4 1 (record { order = 1; first = 0; last = 2; members = s } ∷ []) → ⊥
+members-not-the-core s u i e p = omega (arith, e, p .cutting .least (record { order = 1; first = 0; last = 2; members = s }) (List·Memᴰ·head refl) .each u i)
+
+-- so not the query by itself, and not all badges
+pub members-the-query : PlanStatement 4 3 d1Words (full 4) 4 1 (record { order = 1; first = 0; last = 2; members = 4 } ∷ []) → ⊥
+unfolding computing
+members-the-query p = members-not-the-core 4 2 refl refl p
+
+pub members-all : PlanStatement 4 3 d1Words (full 4) 4 1 (record { order = 1; first = 0; last = 2; members = 15 } ∷ []) → ⊥
+unfolding computing
+members-all p = members-not-the-core 15 0 refl refl p
+
+-- a plan's last four bytes say h
 plan-four : (n T h query : ℕ) (ps : List SpanCore) → drop (length (planBytes n T h query ps) - 4) (planBytes n T h query ps) ≡ littleEndian 4 h
 unfolding planBytes
 plan-four n T h query ps =

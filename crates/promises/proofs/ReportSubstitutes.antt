@@ -13,11 +13,12 @@ use Rattle.sets.specs.Bytes.{littleEndian, fromLittleEndian}
 use Rattle.sets.proofs.Sets.{sub-antisym}
 use Rattle.records.specs.declared.record.Record.the-variants.{End}
 use Rattle.records.specs.Records.{encode}
-use Rattle.records.specs.Outcomes.{refused}
+use Rattle.records.specs.Outcomes.{refused, success}
 use Rattle.records.proofs.Records.{length-encode}
-use Rattle.records.proofs.Outcomes.{refused-success}
+use Rattle.records.proofs.Outcomes.{refused-success, success-same}
 use Rattle.days.specs.Days.{LentDay}
-use Rattle.log.specs.Buffers.{Delivered}
+use Rattle.log.specs.Buffers.{Delivered, deliver}
+use Rattle.log.proofs.Delivering.{deliver-fits}
 use Rattle.spans.specs.SpanCores.{SpanCore, Mem}
 use Rattle.spans.specs.Reports.{groupsOf}
 use Rattle.spans.specs.Encoding.{encodeCores, reportBytes, decodeCores, recordsAfter}
@@ -90,9 +91,20 @@ d1-members : (c : SpanCore) → Mem c (groupsOf 4 3 d1Words) → (c .members ≡
 d1-members c i = ⊎-elim (λ e. inl (ap (λ (x : SpanCore). x .members) e)) (λ j. inr (ap (λ (x : SpanCore). x .members) (List·Memᴰ·eq-of-singleton j)))
     (List·Memᴰ·cases-cons (rw d1-groups at i))
 
--- An empty report for all days.
-pub empty-report : (call : ℕ → ℕ → List ℕ → List ℕ → Delivered) → ReportsGroups call (λ n T ws. []) → ⊥
-empty-report call p = List·Memᴰ·not-nil (d1-triple [] (p .stated 4 3 d1Words d1-lent))
+-- a report that has this group has more than 10 bytes
+longer : (xs : List SpanCore) → Mem triple xs → 10 < length (reportBytes 4 3 xs)
+longer [] i = absurd (List·Memᴰ·not-nil i)
+longer (x ∷ xs) i = omega (arith, report-length 4 3 (x ∷ xs))
+
+-- An empty report for all days: whatever records the promise is made of, no call that delivers the report without groups for every day keeps it.
+pub empty-report : (call : ℕ → ℕ → List ℕ → List ℕ → Delivered) (groups : ℕ → ℕ → List ℕ → List SpanCore)
+    → ((n T : ℕ) (ws buffer : List ℕ) → LentDay n T ws → call n T ws buffer ≡ deliver (success (reportBytes n T [])) buffer) → ReportsGroups call groups → ⊥
+empty-report call groups e p =
+    let bytes = reportBytes 4 3 (groups 4 3 d1Words) in
+    let l = longer _ (d1-triple _ (p .stated 4 3 d1Words d1-lent)) in
+    let none : length (reportBytes 4 3 []) ≡ 10 = report-length 4 3 [] in
+    let f = sym (e 4 3 d1Words bytes d1-lent ∙ deliver-fits (reportBytes 4 3 []) bytes (omega (arith, none))) ∙ p .succeeds 4 3 d1Words bytes d1-lent (le-refl _) in
+    omega (arith, none, success-same (ap (λ (x : Delivered). x .answer) f))
 
 -- D1's report without its second group
 pub second-left-out : GroupStatement 4 3 d1Words (full 4) (triple ∷ []) → ⊥
@@ -144,10 +156,6 @@ bound-before-measuring call groups bound e p =
 
     short : length (reportBytes 4 3 (groups 4 3 still)) ≡ 10
     short = report-length 4 3 (groups 4 3 still) ∙ ap (λ (x : List SpanCore). 10 + 13 * length x) (none-still p)
-
-    longer : (xs : List SpanCore) → Mem triple xs → 10 < length (reportBytes 4 3 xs)
-    longer [] i = absurd (List·Memᴰ·not-nil i)
-    longer (x ∷ xs) i = omega (arith, report-length 4 3 (x ∷ xs))
 
 -- where bytes that differ in the ED count alone are equal, the four bytes of the two counts are the same
 same-four : (front : List ℕ) (count other : ℕ) (rest : List ℕ) → (front ++ encode (End count)) ++ rest ≡ (front ++ encode (End other)) ++ rest

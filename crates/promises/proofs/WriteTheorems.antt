@@ -23,7 +23,7 @@ use Rattle.days.specs.Calls.{readOf}
 use Rattle.days.proofs.Days.{neighbours-take, day-by}
 use Rattle.days.proofs.Checks.{check-day, check-rest}
 use Rattle.days.proofs.ReadCall.{left}
-use Rattle.log.specs.Tidy.{tidyContacts, tidyLog}
+use Rattle.log.specs.Tidy.{IsTidy, tidyContacts, tidyLog}
 use Rattle.log.specs.Buffers.{deliver}
 use Rattle.log.specs.Calls.{tidyBytes, writeOf}
 use Rattle.log.proofs.TidyForm.{tidy-form, tidy-unique, tidy-meet, tidy-valid, tidy-met-in, tidy-met-of}
@@ -32,11 +32,15 @@ use Rattle.log.proofs.TidyCall.{adjacent-append, bytes-same, write-passed}
 use Rattle.promises.specs.WrittenDays.{HasRuns, logBytes, Writes}
 use Rattle.promises.proofs.ReadTheorems.{read-log}
 
+-- the tidy list of a day's words has the unbroken runs of its pairs, in order
+pub day-runs : (n T : ℕ) (ws : List ℕ) → IsTidy n T (λ t u v. In (neighbours n ws t u) v) (tidyContacts n T (adjacent n ws))
+unfolding adjacent
+day-runs n T ws = tidy-meet n T _ _ _ (λ t u v a b c. (eqb-true _ _, eq-eqb _ _)) (tidy-form n T (adjacent n ws))
+
 module _ (n T : ℕ) (ws : List ℕ) (runs : List Record) (h : HasRuns n T ws runs) where
-  -- the runs of a day's words are the tidy list
+  -- and no other list does
   runs-are : runs ≡ tidyContacts n T (adjacent n ws)
-  unfolding adjacent
-  runs-are = tidy-unique _ _ (h .tidy) (tidy-meet n T _ _ _ (λ t u v a b c. (eqb-true _ _, eq-eqb _ _)) (tidy-form n T (adjacent n ws)))
+  runs-are = tidy-unique _ _ (h .tidy) (day-runs n T ws)
 
   passes : (buffer : List ℕ) → writeOf n T ws buffer ≡ deliver (tidyBytes 15 n T (adjacent n ws)) buffer
   passes buffer = write-passed n T ws buffer (check-day n T ws (h .lent .limits) (h .lent .enough) (h .lent .day))
