@@ -2,5 +2,6 @@
 pub mod Bools
 pub mod Sets
 pub mod Bytes
+pub mod Ascii
 pub mod Tables
 pub mod Members

@@ -1,9 +1,12 @@
-// Sets of badges. A set goes in and comes back by value; no function has a precondition.
+// Sets of badges, and a byte as a number. A set goes in and comes back by value; no function has a precondition.
+mod widening;
+
 ghost use mathlib.Core.Path.{_≡_};
 ghost use Prim.Native.Nat.{_-_, min};
 ghost use lib.Dec.{eqb};
 ghost use Rattle.sets.specs.Sets.{has, isSub, intersection, difference, only, full, size, smallest};
 ghost use Rattle.sets.specs.Members.{members, capacity, insert};
+pub use widening::widen;
 
 // Some of the badges 0 to 63: badge u is in the set when bit u is 1.
 pub struct BadgeSet {

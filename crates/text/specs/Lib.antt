@@ -1,5 +1,4 @@
 -- The listing's text: what a reader has to believe. Laws are in proofs/. (`Making` is cited by private functions alone.)
-pub mod Ascii
 pub mod Decimal
 pub mod Listing
 pub mod Pieces

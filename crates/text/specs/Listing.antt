@@ -4,6 +4,7 @@ use mathlib.Core.List.{List, [], _∷_, _++_, map}
 use Prim.Native.Nat.{ℕ}
 use Prim.Native.Char.{code}
 use lib.ListN.{length}
+use Rattle.sets.specs.Ascii.{ascii}
 use Rattle.sets.specs.Sets.{has}
 use Rattle.sets.specs.Members.{capacity}
 use Rattle.sets.specs.Tables.{concatBelow, keepIf}
@@ -14,7 +15,6 @@ use Rattle.records.specs.Meaning.{badgesOf, ticksOf}
 use Rattle.days.specs.Days.{dayOf}
 use Rattle.spans.specs.SpanCores.{SpanCore}
 use Rattle.spans.specs.Reports.{groupsOf}
-use Rattle.text.specs.Ascii.{ascii}
 use Rattle.text.specs.Decimal.{decimal}
 
 abbrev pub newline : List ℕ

@@ -1,7 +1,6 @@
 -- group_line meets its contract: three labelled numbers, the members and a newline.
 use native.Mathlib.Omega.{arith}
 use borrow.Author.Needs.{needs}
-use Rattle.text.specs.Ascii.{ascii}
 use Rattle.text.specs.Listing.{groupLine}
 use Rattle.text.proofs.Appended.{appends-then, makes}
 use Rattle.text.proofs.line.group_line.Statement.{statement}
@@ -44,7 +43,7 @@ same-length : tie.Need-same-length
 same-length c = search needs
 
 returns : tie.Need-returns
-unfolding groupLine ascii
+unfolding groupLine
 returns c =
     makes (c .before .before .before .before .before .before .before .before .before .before .before .before .before .before .before .before .before .before .before .before .before .before .before .before .before .before .before .before .before .before .pre) (search needs)
     (appends-then (c .before .before .before .before .before .before .before .before .before .before .before .before .before .before .before .before .before .before .before .before .before .before .before .before .before .before .append-field .ensures .0) (appends-then (c .before .before .before .before .before .before .before .before .before .before .before .before .before .before .before .before .before .before .before .before .before .append-field2 .ensures .0) (appends-then (c .before .before .before .before .before .before .before .before .before .before .before .before .before .before .before .before .append-field3 .ensures .0)

@@ -1,7 +1,6 @@
 -- refusal_line meets its contract: two labelled numbers and a newline.
 use native.Mathlib.Omega.{arith}
 use borrow.Author.Needs.{needs}
-use Rattle.text.specs.Ascii.{ascii}
 use Rattle.text.specs.Listing.{refusalLine}
 use Rattle.text.proofs.Appended.{appends-then, makes}
 use Rattle.text.proofs.line.refusal_line.Statement.{statement}
@@ -29,7 +28,7 @@ same-length : tie.Need-same-length
 same-length c = search needs
 
 returns : tie.Need-returns
-unfolding refusalLine ascii
+unfolding refusalLine
 returns c =
     makes (c .before .before .before .before .before .before .before .before .before .before .before .before .before .before .before .before .pre) (search needs)
     (appends-then (c .before .before .before .before .before .before .before .before .before .before .before .before .append-field .ensures .0) (appends-then (c .before .before .before .before .before .before .before .append-field2 .ensures .0) (c .before .before .append .ensures)))
