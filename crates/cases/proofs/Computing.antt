@@ -27,7 +27,6 @@ use Rattle.spans.specs.Reports.{asLarge, same, isMaximal, isGroup, groupsOn, gr
 use Rattle.spans.specs.Plans.{scoreOn, membersOn, partOn, partsFrom, isQuery, isParts}
 use Rattle.spans.specs.Encoding.{encodeCore, encodeCores, reportBytes, planBytes}
 use Rattle.groups.specs.Calls.{coreNumberBytes, spanJudged, coreNumbersOf, reportOf, planJudged, planOf}
-use Rattle.text.specs.Ascii.{ascii}
 use Rattle.text.specs.Decimal.{decimalIn, decimal}
 use Rattle.text.specs.Listing.{field, headLine, memberList, groupLine, refusalLine, reportLines, judgedLines, joined, listing}
 use Rattle.cases.specs.RecordBytes.{badges, BH, CT, ED, RH, GR, PH, PT}
@@ -54,7 +53,7 @@ groups-computing = 0
 
 -- the listing
 text-computing : ℕ
-unfolding groups-computing ascii decimalIn decimal field headLine memberList groupLine refusalLine reportLines judgedLines joined listing
+unfolding groups-computing decimalIn decimal field headLine memberList groupLine refusalLine reportLines judgedLines joined listing
 text-computing = 0
 
 -- the tables

@@ -2,7 +2,7 @@
 use mathlib.Core.List.{List, [], _∷_, _++_}
 use Prim.Native.Nat.{ℕ}
 use Rattle.records.specs.Outcomes.{refused, success}
-use Rattle.text.specs.Ascii.{ascii}
+use Rattle.sets.specs.Ascii.{ascii}
 use Rattle.cases.specs.RecordBytes.{badges, BH, CT, ED, RH, GR}
 use Rattle.cases.specs.Rows.{Row, read, tidy, write, core-numbers, report, plan, listing}
 use Rattle.cases.specs.Table.{sevens, accepted, d1Log, d1Words, d1Variant, changingWords, emptyLog, emptyWords, equalBadges}

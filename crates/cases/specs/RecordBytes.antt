@@ -2,7 +2,7 @@
 -- row of the table names no encoder of the calls.
 use mathlib.Core.List.{List, [], _∷_, _++_}
 use Prim.Native.Nat.{ℕ, _+_, _^_}
-use Rattle.text.specs.Ascii.{ascii}
+use Rattle.sets.specs.Ascii.{ascii}
 
 -- the set of these badges, each named once: badge u is bit u
 unfoldable pub badges : List ℕ → ℕ

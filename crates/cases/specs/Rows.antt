@@ -12,7 +12,7 @@ use Rattle.log.specs.Calls.{tidyOf, writeOf}
 use Rattle.cuts.specs.Cuttings.{total, IsBest}
 use Rattle.spans.specs.Plans.{scoreOn}
 use Rattle.groups.specs.Calls.{coreNumbersOf, reportOf, Planned}
-use Rattle.text.specs.Ascii.{ascii}
+use Rattle.sets.specs.Ascii.{ascii}
 use Rattle.text.specs.Listing.{listing as listed}
 
 -- A row has a call's arguments, what it answers, and what it leaves in each slice that was lent, in this order: `words` and `buffer` are lent,
