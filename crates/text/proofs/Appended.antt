@@ -7,6 +7,7 @@ use native.Mathlib.Numerals.{add-one}
 use native.Mathlib.Omega.{arith}
 use lib.ListN.{length, take, drop, length-append, length-drop}
 use lib.Seq.{take-all, length-paste}
+use Rattle.sets.specs.Ascii.{ascii}
 use Rattle.sets.specs.Sets.{has}
 use Rattle.sets.specs.Members.{capacity}
 use Rattle.sets.specs.Tables.{concatBelow, keepIf}
@@ -74,14 +75,14 @@ unfolding keepIf
 member-one b e a = rw e a
 
 -- a badge below 100, after a space, has at most three bytes
-pub member-length : (b : Bool) (u : ℕ) → u < 100 → length (keepIf b (field (32 ∷ []) u)) ≤ 3
+pub member-length : (b : Bool) (u : ℕ) → u < 100 → length (keepIf b (field (ascii " ") u)) ≤ 3
 unfolding keepIf
-member-length true u h = field-length (32 ∷ []) 1 u h
+member-length true u h = field-length (ascii " ") 1 u h
 member-length false u h = omega arith
 
 -- A loop that appends the members of a set: those below u are appended, in at most three bytes each.
 abbrev pub memberPart : ℕ → ℕ → List ℕ
-memberPart s u = keepIf (has s u) (field (32 ∷ []) u)
+memberPart s u = keepIf (has s u) (field (ascii " ") u)
 
 pub record MembersBelow (s u at at′ : ℕ) (line line′ : List ℕ) : Type 0 where
   pub few : u ≤ capacity

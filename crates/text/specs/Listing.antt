@@ -2,7 +2,6 @@
 -- refusal prints `refused N at OFFSET`." Every line ends with a newline.
 use mathlib.Core.List.{List, [], _∷_, _++_, map}
 use Prim.Native.Nat.{ℕ}
-use Prim.Native.Char.{code}
 use lib.ListN.{length}
 use Rattle.sets.specs.Ascii.{ascii}
 use Rattle.sets.specs.Sets.{has}
@@ -18,7 +17,7 @@ use Rattle.spans.specs.Reports.{groupsOf}
 use Rattle.text.specs.Decimal.{decimal}
 
 abbrev pub newline : List ℕ
-newline = code "\n" ∷ []
+newline = ascii "\n"
 
 -- a label and a number after it
 unfoldable pub field : List ℕ → ℕ → List ℕ
@@ -29,7 +28,7 @@ headLine n T groups = field (ascii "badges ") n ++ (field (ascii " ticks ") T ++
 
 -- the members of a set, rising, each after a space
 unfoldable pub memberList : ℕ → List ℕ
-memberList s = concatBelow capacity (λ u. keepIf (has s u) (field (code " " ∷ []) u))
+memberList s = concatBelow capacity (λ u. keepIf (has s u) (field (ascii " ") u))
 
 unfoldable pub groupLine : SpanCore → List ℕ
 groupLine c = field (ascii "order ") (c .order) ++ (field (ascii " ticks ") (c .first) ++ (field (ascii " to ") (c .last) ++ (ascii " badges" ++ (memberList (c .members) ++ newline))))

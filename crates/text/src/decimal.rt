@@ -1,15 +1,16 @@
 // Numbers in decimal digits.
 ghost use mathlib.Core.Path.{_≡_};
-ghost use Prim.Native.Nat.{_+_, _<_};
+ghost use Prim.Native.Nat.{_<_};
 ghost use lib.ListN.{length};
+ghost use Rattle.text.specs.Decimal.{digit};
 ghost use Rattle.text.specs.Making.{digitRoom, Spells};
 
 // A digit of a number as ASCII.
 fn digit(d: usize) -> u8
     requires { ⌜ d < 10 ⌝ }
-    ensures { λ r. ⌜ r ≡ 48 + d ⌝ }
+    ensures { λ r. ⌜ r ≡ digit d ⌝ }
 {
-    48 + d as u8
+    b'0' + d as u8
 }
 
 // Puts the digits of a number at the end of 20 bytes, and answers where they start.

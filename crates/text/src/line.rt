@@ -1,8 +1,8 @@
 // The lines of a listing, each made in memory of its own.
 ghost use mathlib.Core.Path.{_≡_};
-ghost use mathlib.Core.List.{_∷_, []};
 ghost use Prim.Native.Nat.{_+_, _≤_, _<_};
 ghost use lib.ListN.{length};
+ghost use Rattle.sets.specs.Ascii.{ascii};
 ghost use Rattle.sets.specs.Sets.{has};
 ghost use Rattle.sets.specs.Members.{members};
 ghost use Rattle.sets.specs.Tables.{keepIf};
@@ -15,7 +15,7 @@ use sets::BadgeSet;
 // Appends a badge, after a space, if it is a member.
 fn append_member(line: &mut [u8], at: usize, set: BadgeSet, u: usize) -> usize
     requires { ⌜ at + 21 ≤ length (now line) ⌝ }
-    ensures { λ r. ⌜ Appends (keepIf (has (members set) u) (field (32 ∷ []) u)) at r (now (line .entry)) (now (line .exit)) ⌝ }
+    ensures { λ r. ⌜ Appends (keepIf (has (members set) u) (field (ascii " ") u)) at r (now (line .entry)) (now (line .exit)) ⌝ }
 {
     if set.has(u) {
         return append_field(line, at, b" ", u);
