@@ -8,7 +8,7 @@ use lib.Dec.{ltb}
 use lib.ListN.{getD, replicate, getD-replicate}
 use borrow.Author.Tests.{ltb-true, ltb-false}
 use Rattle.sets.specs.Sets.{has, setOf, union, difference, only, full}
-use Rattle.sets.specs.Members.{capacity}
+use Rattle.sets.specs.Members.{wordBits, capacity}
 use Rattle.sets.specs.Tables.{piecewise}
 use Rattle.sets.proofs.Bools.{same-test, to-false}
 use Rattle.sets.proofs.Sets.{in-test, has-test, out-test, in-set, of-set, of-set-lt, of-difference, in-difference, of-full, set-yes, set-no}
@@ -57,28 +57,28 @@ module _ (n : ℕ) (ws : List ℕ) (u from : ℕ) where
 
 -- The ticks of which the low and the high columns of u and v say that they meet are those of the day in which they do.
 module _ (n T : ℕ) (ws : List ℕ) (u v : ℕ) {lows highs : List ℕ} (s : TickSet) (h : T ≤ tickCapacity) (k : u < v) (l : v < capacity)
-    (low : Columns n ws u 0 (min capacity (T - 0)) lows) (high : Columns n ws u capacity (min capacity (T - capacity)) highs)
+    (low : Columns n ws u 0 (min wordBits (T - 0)) lows) (high : Columns n ws u wordBits (min wordBits (T - wordBits)) highs)
     (e : s .low ≡ getD lows v 0) (f : s .high ≡ getD highs v 0) where
-  tick-low : (t : ℕ) → t < capacity → hasTick s t ≡ has (setOf (min capacity (T - 0)) (λ t. adjacent n ws (0 + t) u v)) t
+  tick-low : (t : ℕ) → t < wordBits → hasTick s t ≡ has (setOf (min wordBits (T - 0)) (λ t. adjacent n ws (0 + t) u v)) t
   tick-low t a = has-low s t a ∙ ap (λ (x : ℕ). has x t) (e ∙ low .at v k l)
 
-  tick-high : (t : ℕ) → capacity ≤ t → hasTick s t ≡ has (setOf (min capacity (T - capacity)) (λ t. adjacent n ws (capacity + t) u v)) (t - capacity)
-  tick-high t a = has-high s t a ∙ ap (λ (x : ℕ). has x (t - capacity)) (f ∙ high .at v k l)
+  tick-high : (t : ℕ) → wordBits ≤ t → hasTick s t ≡ has (setOf (min wordBits (T - wordBits)) (λ t. adjacent n ws (wordBits + t) u v)) (t - wordBits)
+  tick-high t a = has-high s t a ∙ ap (λ (x : ℕ). has x (t - wordBits)) (f ∙ high .at v k l)
 
   pub tick-in : (t : ℕ) → t < T → hasTick s t ≡ adjacent n ws t u v
-  tick-in t a = go (ltb t capacity) refl
+  tick-in t a = go (ltb t wordBits) refl
     where
-      go : (b : Bool) → ltb t capacity ≡ b → hasTick s t ≡ adjacent n ws t u v
-      go true c = let b : t < capacity = ltb-true _ _ c in
+      go : (b : Bool) → ltb t wordBits ≡ b → hasTick s t ≡ adjacent n ws t u v
+      go true c = let b : t < wordBits = ltb-true _ _ c in
           let z : 0 + t ≡ t = omega arith in
           tick-low t b ∙ has-set _ _ t (omega arith) ∙ ap (λ (x : ℕ). adjacent n ws x u v) z
-      go false c = let b : capacity ≤ t = ltb-false _ _ c in
-          let z : capacity + (t - capacity) ≡ t = omega arith in
-          tick-high t b ∙ has-set _ _ (t - capacity) (omega arith) ∙ ap (λ (x : ℕ). adjacent n ws x u v) z
+      go false c = let b : wordBits ≤ t = ltb-false _ _ c in
+          let z : wordBits + (t - wordBits) ≡ t = omega arith in
+          tick-high t b ∙ has-set _ _ (t - wordBits) (omega arith) ∙ ap (λ (x : ℕ). adjacent n ws x u v) z
 
   pub tick-below : TicksBelow T s
-  tick-below = record { at = λ t a. go t a (ltb t capacity) refl }
+  tick-below = record { at = λ t a. go t a (ltb t wordBits) refl }
     where
-      go : (t : ℕ) → T ≤ t → (b : Bool) → ltb t capacity ≡ b → hasTick s t ≡ false
-      go t a true c = let b : t < capacity = ltb-true _ _ c in tick-low t b ∙ has-none _ _ t (omega arith)
-      go t a false c = let b : capacity ≤ t = ltb-false _ _ c in tick-high t b ∙ has-none _ _ (t - capacity) (omega arith)
+      go : (t : ℕ) → T ≤ t → (b : Bool) → ltb t wordBits ≡ b → hasTick s t ≡ false
+      go t a true c = let b : t < wordBits = ltb-true _ _ c in tick-low t b ∙ has-none _ _ t (omega arith)
+      go t a false c = let b : wordBits ≤ t = ltb-false _ _ c in tick-high t b ∙ has-none _ _ (t - wordBits) (omega arith)

@@ -2,22 +2,22 @@
 use mathlib.Core.Path.{_≡_}
 use mathlib.Core.Bool.{Bool, true, false}
 use mathlib.Core.List.{List}
-use Prim.Native.Nat.{ℕ, _+_, _-_, _≤_, _<_}
+use Prim.Native.Nat.{ℕ, _+_, _-_, _*_, _≤_, _<_}
 use lib.Dec.{ltb}
 use lib.ListN.{length, getD}
 use Rattle.sets.specs.Sets.{has, setOf, union}
-use Rattle.sets.specs.Members.{capacity}
+use Rattle.sets.specs.Members.{wordBits, capacity}
 use Rattle.sets.specs.Tables.{tabulate, piecewise}
 use Rattle.days.specs.Days.{adjacent}
 use Rattle.log.specs.declared.ticks.TickSet.{TickSet}
 
 -- a set of ticks holds ticks below this number
 abbrev pub tickCapacity : ℕ
-tickCapacity = 128
+tickCapacity = 2 * wordBits
 
 -- tick t is in a set of ticks, by its low word or its high word
 unfoldable pub hasTick : TickSet → ℕ → Bool
-hasTick s t = elim (ltb t capacity) [ true ↦ has (s .low) t | false ↦ has (s .high) (t - capacity) ]
+hasTick s t = elim (ltb t wordBits) [ true ↦ has (s .low) t | false ↦ has (s .high) (t - wordBits) ]
 
 -- every tick of a set is below T
 pub record TicksBelow (T : ℕ) (s : TickSet) : Type 0 where

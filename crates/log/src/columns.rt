@@ -2,7 +2,7 @@
 ghost use mathlib.Core.Path.{_≡_};
 ghost use Prim.Native.Nat.{_-_, _≤_, _<_, min};
 ghost use lib.ListN.{length};
-ghost use Rattle.sets.specs.Members.{capacity, members};
+ghost use Rattle.sets.specs.Members.{wordBits, capacity, members};
 ghost use Rattle.records.specs.Limits.{maxTicks};
 ghost use Rattle.log.specs.TickSets.{united, Columns};
 ghost use Rattle.log.specs.Writing.{Writable};
@@ -24,7 +24,7 @@ fn unite(columns: &mut [u64], badges: BadgeSet, bits: u64)
 
 // How many of the 64 ticks from one on are ticks of the day.
 fn window(from: usize, ticks: usize) -> usize
-    ensures { λ r. ⌜ r ≡ min capacity (ticks - from) ⌝ }
+    ensures { λ r. ⌜ r ≡ min wordBits (ticks - from) ⌝ }
 {
     if ticks <= from {
         return 0;
@@ -39,7 +39,7 @@ fn window(from: usize, ticks: usize) -> usize
 // words are walked, so a pair costs nothing in a tick in which it does not meet.
 pub(crate) fn columns_of(words: &[u64], n: usize, ticks: usize, u: usize, from: usize) -> [u64; 64]
     requires { ⌜ Writable n ticks (now words) × (u < n) × (from ≤ maxTicks) ⌝ }
-    ensures { λ r. ⌜ Columns n (now (words .entry)) u from (min capacity (ticks - from)) r ⌝ }
+    ensures { λ r. ⌜ Columns n (now (words .entry)) u from (min wordBits (ticks - from)) r ⌝ }
 {
     let mut columns = [0u64; 64];
     let smaller = BadgeSet::full(u + 1);

@@ -5,9 +5,13 @@ use lib.Dec.{ltb}
 use Rattle.sets.specs.declared.BadgeSet.{BadgeSet}
 use Rattle.sets.specs.Sets.{union, only}
 
--- a set holds badges below this number
+-- the bits of a word
+abbrev pub wordBits : ℕ
+wordBits = 64
+
+-- a set, which is held in one word, holds badges below this number
 abbrev pub capacity : ℕ
-capacity = 64
+capacity = wordBits
 
 -- the badges of a set, as a number
 abbrev pub members : BadgeSet → ℕ

@@ -4,7 +4,7 @@ use Prim.Native.Nat.{_+_, _*_, _-_, _≤_, min}
 use native.Mathlib.Omega.{arith}
 use borrow.Author.Needs.{needs}
 use Rattle.sets.specs.Sets.{difference, only, full}
-use Rattle.sets.specs.Members.{capacity, members}
+use Rattle.sets.specs.Members.{wordBits, capacity, members}
 use Rattle.sets.proofs.Bits.{one-shl}
 use Rattle.days.specs.Days.{neighbours}
 use Rattle.days.proofs.Days.{tick-fits}
@@ -89,7 +89,7 @@ loop-again c =
 returns : tie.Need-returns Inv-loop μ-loop
 returns c =
     let a = c .before .before .before .before .before .args in
-    let e : c .before .loop .t ≡ min capacity (a .ticks - a .from) = omega arith in
+    let e : c .before .loop .t ≡ min wordBits (a .ticks - a .from) = omega arith in
     rw e at (c .before .loop .inv .2)
 
 pub columns-of-spec : {M : Type 1} → statement M

@@ -1,35 +1,40 @@
--- first_bit meets its contract.
-use mathlib.Core.Path.{_≡_, ap, ap₂, _∙_}
-use Prim.Native.Nat.{min}
+-- first_bit meets its contract: the bits below a number are taken away, and the zeros that trail are counted.
+use mathlib.Core.Path.{_≡_}
+use Prim.Native.Nat.{_*_, _-_, _%_, _^_}
+use native.Mathlib.Nat.{lt-of-le-of-lt}
 use native.Mathlib.Omega.{arith}
+use lib.Dec.{lit<}
+use lib.Bits.{and-le-l}
+use lib.Count.{trailing-le}
+use lib.Pow.{pow-pos}
 use borrow.Author.Needs.{needs}
-use Rattle.sets.specs.Sets.{difference, full, smallest}
-use Rattle.sets.specs.Members.{capacity}
+use Rattle.sets.specs.Sets.{difference, full}
+use Rattle.sets.specs.Members.{wordBits}
+use Rattle.sets.proofs.Bits.{one-shl}
+use Rattle.sets.proofs.Sets.{full-suc}
+use Rattle.sets.proofs.Smallest.{smallest-trailing}
 use Rattle.log.proofs.TickSets.{first-member}
 use Rattle.log.proofs.ticks.first_bit.Statement.{statement}
 use Rattle.log.proofs.ticks.first_bit.Tie as tie
 
-from-word-requires : tie.Need-from-word-requires
-from-word-requires c κs = search needs
+shl-result : tie.Need-shl-result
+shl-result c = search needs
 
-full-requires : tie.Need-full-requires
-full-requires c κs = search needs
+sub-result : tie.Need-sub-result
+sub-result c = omega (arith, one-shl (c .args .from) (c .pre), pow-pos (c .args .from))
 
-difference-requires : tie.Need-difference-requires
-difference-requires c κs = search needs
+sub-result-2 : tie.Need-sub-result-2
+sub-result-2 c = and-le-l _ _
 
-smallest-requires : tie.Need-smallest-requires
-smallest-requires c κs = search needs
+cast-result : tie.Need-cast-result
+cast-result c = record { fits = lt-of-le-of-lt (trailing-le wordBits _) (lit< tt) }
 
 returns : tie.Need-returns
+unfolding difference
 returns c =
-    let a = c .before .before .before .before .args in
-    let m : min (a .from) capacity ≡ a .from = omega arith in
-    let e : c .smallest .result ≡ smallest capacity (difference (a .word) (full (a .from))) =
-    c .smallest .ensures ∙ ap (smallest capacity) (c .before .difference .ensures ∙ ap₂ difference (c .before .before .before .from-word .ensures) (c .before .before .full .ensures ∙ ap full m)) in
-    rw e (first-member capacity (a .word) (a .from) (c .before .before .before .before .pre))
+    let from = c .args .from in
+    let e : 1 * 2 ^ from % 2 ^ wordBits - 1 ≡ full from = omega (arith, one-shl from (c .pre), full-suc from) in
+    rw (e, ← smallest-trailing) (first-member wordBits (c .args .word) from (omega arith))
 
 pub first-bit-spec : {M : Type 1} → statement M
-first-bit-spec =
-    tie.close
-    (tie.spec from-word-requires full-requires difference-requires smallest-requires returns)
+first-bit-spec = tie.close (tie.spec shl-result sub-result sub-result-2 cast-result returns)
