@@ -1,6 +1,6 @@
 // The core of the highest order, from rows that are peeled at rising orders.
 ghost use mathlib.Core.Path.{_≡_};
-ghost use Prim.Native.Nat.{_<_, min};
+ghost use Prim.Native.Nat.{min};
 ghost use lib.Dec.{ltb};
 ghost use Rattle.sets.specs.Bools.{_and_};
 ghost use Rattle.sets.specs.Members.{members};
@@ -9,6 +9,7 @@ ghost use Rattle.cores.specs.Rows.{IsHighest};
 use crate::peeling::core;
 use crate::peeling::keep;
 use sets::BadgeSet;
+use sets::widen;
 
 // A core: its order, its members, and their rows, with an empty row for every other badge.
 pub struct Core {
@@ -25,13 +26,6 @@ fn contains(s: BadgeSet, query: BadgeSet) -> bool
         return false;
     }
     query.is_subset(s)
-}
-
-// A byte as a larger number.
-fn widen(x: u8) -> usize
-    ensures { λ r. ⌜ (r ≡ x) × (r < 256) ⌝ }
-{
-    x as usize
 }
 
 // The smaller of a number and a byte.

@@ -19,31 +19,31 @@ use Rattle.spans.specs.Encoding.{encodeCore, encodeCores}
 use Rattle.spans.proofs.Encoding.{encode-core-length, encode-cores-append}
 use Rattle.groups.specs.Appending.{AppendsCores}
 
-module _ {a b header : ℕ} where
+module _ {mark : List ℕ} {header : ℕ} where
   -- nothing is appended
-  pub appends-none : {count : ℕ} {buffer : List ℕ} → AppendsCores a b header [] count count buffer buffer
+  pub appends-none : {count : ℕ} {buffer : List ℕ} → AppendsCores mark header [] count count buffer buffer
   unfolding encodeCores
   appends-none = record { number = omega arith; size = refl; bytes = sym (append-nil _) }
 
   -- one list after another
-  pub appends-then : {xs ys : List SpanCore} {i j k : ℕ} {x y z : List ℕ} → AppendsCores a b header xs i j x y → AppendsCores a b header ys j k y z
-      → AppendsCores a b header (xs ++ ys) i k x z
+  pub appends-then : {xs ys : List SpanCore} {i j k : ℕ} {x y z : List ℕ} → AppendsCores mark header xs i j x y → AppendsCores mark header ys j k y z
+      → AppendsCores mark header (xs ++ ys) i k x z
   appends-then {xs} {ys} {i} {j} {k} {x} {y} {z} e f = record {
     number = omega (arith, e .number, f .number, length-append xs ys);
     size = f .size ∙ e .size;
     bytes =
-        f .bytes ∙ ap (λ (s : List ℕ). s ++ encodeCores a b ys) (e .bytes) ∙ append-assoc (take (header + 13 * i) x) (encodeCores a b xs) (encodeCores a b ys)
-        ∙ ap (λ (s : List ℕ). take (header + 13 * i) x ++ s) (sym (encode-cores-append a b xs ys));
+        f .bytes ∙ ap (λ (s : List ℕ). s ++ encodeCores mark ys) (e .bytes) ∙ append-assoc (take (header + 13 * i) x) (encodeCores mark xs) (encodeCores mark ys)
+        ∙ ap (λ (s : List ℕ). take (header + 13 * i) x ++ s) (sym (encode-cores-append mark xs ys));
   }
 
   -- one record
-  pub appends-one : (c : SpanCore) {count : ℕ} {buffer buffer′ : List ℕ} → header + 13 * count + 13 ≤ length buffer
-      → buffer′ ≡ place (header + 13 * count) (encodeCore a b c) buffer → AppendsCores a b header (c ∷ []) count (count + 1) buffer buffer′
+  pub appends-one : length mark ≡ 2 → (c : SpanCore) {count : ℕ} {buffer buffer′ : List ℕ} → header + 13 * count + 13 ≤ length buffer
+      → buffer′ ≡ place (header + 13 * count) (encodeCore mark c) buffer → AppendsCores mark header (c ∷ []) count (count + 1) buffer buffer′
   unfolding encodeCores
-  appends-one c {count} {buffer} {buffer′} h e =
+  appends-one two c {count} {buffer} {buffer′} h e =
       let at = header + 13 * count in
-      let bytes = encodeCore a b c in
-      let long : length bytes ≡ 13 = encode-core-length a b c in
+      let bytes = encodeCore mark c in
+      let long : length bytes ≡ 13 = encode-core-length mark two c in
       let next : header + 13 * (count + 1) ≡ at + length bytes = omega arith in
       record {
         number = omega arith;
@@ -52,8 +52,8 @@ module _ {a b header : ℕ} where
       }
 
   -- a loop's turn: the next list
-  pub appends-more : (f : ℕ → List SpanCore) (m : ℕ) {i j k : ℕ} {x y z : List ℕ} → AppendsCores a b header (concatBelow m f) i j x y
-      → AppendsCores a b header (f m) j k y z → AppendsCores a b header (concatBelow (m + 1) f) i k x z
+  pub appends-more : (f : ℕ → List SpanCore) (m : ℕ) {i j k : ℕ} {x y z : List ℕ} → AppendsCores mark header (concatBelow m f) i j x y
+      → AppendsCores mark header (f m) j k y z → AppendsCores mark header (concatBelow (m + 1) f) i k x z
   unfolding concatBelow
   appends-more f m e g = rw add-one (appends-then e g)
 
@@ -73,10 +73,10 @@ module _ (orders members : List ℕ) (first : ℕ) where
   line-none = concat-nil first lineCell (λ last h. keep-nil (leb first last) _ (λ e. let l : first ≤ last = leb-true _ _ e in omega arith))
 
   -- a turn of the loop over the last ticks: the record of the span that ends with the tick, if it is kept
-  pub line-more : {a b header : ℕ} (last : ℕ) → first ≤ last → {i j k : ℕ} {x y z : List ℕ} → AppendsCores a b header (concatBelow last lineCell) i j x y
-      → AppendsCores a b header (keepIf (isKept last) (spanRecord last ∷ [])) j k y z → AppendsCores a b header (concatBelow (last + 1) lineCell) i k x z
-  line-more {a} {b} {header} last h {i} {j} {k} {x} {y} {z} e f =
-      appends-more lineCell last e (subst (λ (cs : List SpanCore). AppendsCores a b header cs j k y z) (sym (keep-all (leb first last) _ (le-leb _ _ h))) f)
+  pub line-more : {mark : List ℕ} {header : ℕ} (last : ℕ) → first ≤ last → {i j k : ℕ} {x y z : List ℕ} → AppendsCores mark header (concatBelow last lineCell) i j x y
+      → AppendsCores mark header (keepIf (isKept last) (spanRecord last ∷ [])) j k y z → AppendsCores mark header (concatBelow (last + 1) lineCell) i k x z
+  line-more {mark} {header} last h {i} {j} {k} {x} {y} {z} e f =
+      appends-more lineCell last e (subst (λ (cs : List SpanCore). AppendsCores mark header cs j k y z) (sym (keep-all (leb first last) _ (le-leb _ _ h))) f)
 
   -- there is at most one record for each last tick from the first tick on
   pub cells-le : (m : ℕ) → length (concatBelow m lineCell) ≤ m - first

@@ -6,6 +6,7 @@ use native.Mathlib.Numerals.{add-one}
 use native.Mathlib.Omega.{arith}
 use lib.ListN.{length, getD, take, length-take}
 use lib.Seq.{getD-take, take-suc}
+use Rattle.sets.specs.Ascii.{ascii}
 use Rattle.sets.specs.Bytes.{littleEndian}
 use Rattle.records.specs.declared.record.Record.the-variants.{End}
 use Rattle.records.specs.Limits.{maxTicks}
@@ -58,7 +59,7 @@ pub record PlanSoFar (n T : ℕ) (ws : List ℕ) (query h : ℕ) (ends : List �
   pub number : count ≡ i
   pub next : first ≡ nextFirst 0 (take i ends)
   pub low : i < h → first ≤ getD ends i 0
-  pub appended : AppendsCores 80 84 13 (partsFrom n ws query 0 (take i ends)) 0 count buffer₀ buffer
+  pub appended : AppendsCores (ascii "PT") 13 (partsFrom n ws query 0 (take i ends)) 0 count buffer₀ buffer
 
 -- a buffer of the same length does as well
 same-room : {n T : ℕ} {ws : List ℕ} {query h : ℕ} {ends x y : List ℕ} → length y ≡ length x → PlanParts n T ws query h ends x → PlanParts n T ws query h ends y
@@ -83,7 +84,7 @@ module _ {n T : ℕ} {ws : List ℕ} {query h : ℕ} {ends : List ℕ} {i first 
     pub plan-room : 13 + 13 * count + 13 ≤ length buffer
     plan-room = omega (arith, s .asked .room, s .number)
 
-    pub plan-next : {last count′ : ℕ} {buffer′ : List ℕ} → last ≡ getD ends i 0 → AppendsCores 80 84 13 (partOn n ws query first last ∷ []) count count′ buffer buffer′
+    pub plan-next : {last count′ : ℕ} {buffer′ : List ℕ} → last ≡ getD ends i 0 → AppendsCores (ascii "PT") 13 (partOn n ws query first last ∷ []) count count′ buffer buffer′
         → PlanSoFar n T ws query h ends (i + 1) (last + 1) count′ buffer₀ buffer′
     plan-next {last} {count′} {buffer′} e a =
         let t : take (suc i) ends ≡ take i ends ++ (getD ends i 0 ∷ []) = take-suc ends i 0 (omega (arith, parts-few (s .asked), s .asked .ends-size)) in
@@ -102,20 +103,20 @@ module _ {n T : ℕ} {ws : List ℕ} {query h : ℕ} {ends : List ℕ} {i first 
 -- the header and the end make it a plan
 pub plan-end : {n T : ℕ} {ws : List ℕ} {query h : ℕ} {ends : List ℕ} {i first count : ℕ} {buffer₀ buffer : List ℕ} (given left header : List ℕ)
     → PlanSoFar n T ws query h ends i first count buffer₀ buffer → h ≤ i → 13 ≤ length given
-    → header ≡ encodeCore 80 72 (record { order = n; first = T; last = h; members = query }) → buffer₀ ≡ place 0 header given
+    → header ≡ encodeCore (ascii "PH") (record { order = n; first = T; last = h; members = query }) → buffer₀ ≡ place 0 header given
     → left ≡ place (13 + 13 * count) (encode (End count)) buffer → EncodesPlan n T ws query h ends left
 unfolding planBytes encodeCore
 plan-end {n} {T} {ws} {query} {h} {ends} {i} {first} {count} {buffer₀} {buffer} given left header s l g q e f =
     let j : i ≡ h = omega (arith, s .high) in
     let c : count ≡ h = omega (arith, s .number) in
-    let a : AppendsCores 80 84 13 (partsFrom n ws query 0 (take h ends)) 0 count buffer₀ buffer = rw j at (s .appended) in
+    let a : AppendsCores (ascii "PT") 13 (partsFrom n ws query 0 (take h ends)) 0 count buffer₀ buffer = rw j at (s .appended) in
     let m : 13 + 13 * count + length (encode (End count)) ≡ 19 + 13 * h = omega (arith, length-encode (End count)) in
-    let k : length header ≡ 13 = ap length q ∙ encode-core-length 80 72 (record { order = n; first = T; last = h; members = query }) in
+    let k : length header ≡ 13 = ap length q ∙ encode-core-length (ascii "PH") refl (record { order = n; first = T; last = h; members = query }) in
     let head : take 13 buffer₀ ≡ header = rw k at (ap (take (0 + length header)) e ∙ take-place 0 header given (omega arith)) in
     record {
       bytes =
           ap₂ (λ (x : ℕ) (y : List ℕ). take x y) (sym m) f
           ∙ take-place (13 + 13 * count) (encode (End count)) buffer (omega (arith, s .asked .room))
-          ∙ ap₂ _++_ (a .bytes ∙ ap (λ (x : List ℕ). x ++ encodeCores 80 84 (partsFrom n ws query 0 (take h ends))) (head ∙ q)) (ap (λ (x : ℕ). encode (End x)) c)
-          ∙ append-assoc (80 ∷ 72 ∷ n ∷ T ∷ h ∷ littleEndian 8 query) (encodeCores 80 84 (partsFrom n ws query 0 (take h ends))) (encode (End h));
+          ∙ ap₂ _++_ (a .bytes ∙ ap (λ (x : List ℕ). x ++ encodeCores (ascii "PT") (partsFrom n ws query 0 (take h ends))) (head ∙ q)) (ap (λ (x : ℕ). encode (End x)) c)
+          ∙ append-assoc (ascii "PH" ++ (n ∷ T ∷ h ∷ littleEndian 8 query)) (encodeCores (ascii "PT") (partsFrom n ws query 0 (take h ends))) (encode (End h));
     }

@@ -4,6 +4,7 @@ use mathlib.Core.List.{List, [], _∷_, _++_, append-assoc}
 use Prim.Native.Nat.{ℕ, suc, _+_, _-_, _*_, _≤_, _<_}
 use native.Mathlib.Omega.{arith}
 use lib.ListN.{length, take, replicate}
+use Rattle.sets.specs.Ascii.{ascii}
 use Rattle.sets.specs.Tables.{concatBelow}
 use Rattle.records.specs.declared.record.Record.the-variants.{End}
 use Rattle.records.specs.Limits.{maxTicks}
@@ -29,7 +30,7 @@ pub record ReportSoFar (n T : ℕ) (ws : List ℕ) (first count : ℕ) (buffer�
   pub room : maxReportBytes ≤ length buffer
   pub members-size : length members ≡ maxTicks
   pub before : ScoresBefore n T ws 0 first orders
-  pub appended : AppendsCores 71 82 4 (concatBelow first (groupsFrom n T ws)) 0 count buffer₀ buffer
+  pub appended : AppendsCores (ascii "GR") 4 (concatBelow first (groupsFrom n T ws)) 0 count buffer₀ buffer
 
 short : {n T : ℕ} {ws : List ℕ} → LentDay n T ws → T ≤ maxTicks
 short d = limits-of (d .limits) .short
@@ -66,10 +67,10 @@ module _ {n T : ℕ} {ws : List ℕ} {first count : ℕ} {buffer₀ buffer order
           room = omega (arith, s .room, so-far-few);
         }
 
-    pub so-far-next : {count′ : ℕ} {buffer′ : List ℕ} → AppendsCores 71 82 4 (lineList orders′ members′ first T) count count′ buffer buffer′
+    pub so-far-next : {count′ : ℕ} {buffer′ : List ℕ} → AppendsCores (ascii "GR") 4 (lineList orders′ members′ first T) count count′ buffer buffer′
         → ReportSoFar n T ws (first + 1) count′ buffer₀ buffer′ orders′ members′
     so-far-next {count′} {buffer′} a =
-        let b : AppendsCores 71 82 4 (groupsFrom n T ws first) count count′ buffer buffer′ = rw (line-list (s .before) c) at a in
+        let b : AppendsCores (ascii "GR") 4 (groupsFrom n T ws first) count count′ buffer buffer′ = rw (line-list (s .before) c) at a in
         let e : first + 1 ≡ suc first = omega arith in
         record {
           lent = s .lent;
@@ -82,22 +83,22 @@ module _ {n T : ℕ} {ws : List ℕ} {first count : ℕ} {buffer₀ buffer order
 
 -- the header and the end make it a report
 pub so-far-end : {n T : ℕ} {ws : List ℕ} {first count : ℕ} {buffer₀ buffer orders members : List ℕ} (given left : List ℕ)
-    → ReportSoFar n T ws first count buffer₀ buffer orders members → T ≤ first → 4 ≤ length given → buffer₀ ≡ place 0 (82 ∷ 72 ∷ n ∷ T ∷ []) given
+    → ReportSoFar n T ws first count buffer₀ buffer orders members → T ≤ first → 4 ≤ length given → buffer₀ ≡ place 0 (ascii "RH" ++ (n ∷ T ∷ [])) given
     → left ≡ place (4 + 13 * count) (encode (End count)) buffer → EncodesReport n T ws count left
 unfolding groupsOf reportBytes
 so-far-end {n} {T} {ws} {first} {count} {buffer₀} {buffer} given left s h l e f =
     let q : first ≡ T = omega (arith, s .high) in
-    let a : AppendsCores 71 82 4 (concatBelow T (groupsFrom n T ws)) 0 count buffer₀ buffer = rw q at (s .appended) in
+    let a : AppendsCores (ascii "GR") 4 (concatBelow T (groupsFrom n T ws)) 0 count buffer₀ buffer = rw q at (s .appended) in
     let c : count ≡ length (concatBelow T (groupsFrom n T ws)) = omega (arith, a .number) in
     let m : 4 + 13 * count + length (encode (End count)) ≡ 10 + 13 * count = omega (arith, length-encode (End count)) in
     let k : 10 + 13 * count ≤ length buffer = omega (arith, s .room, so-far-count s) in
-    let head : take 4 buffer₀ ≡ 82 ∷ 72 ∷ n ∷ T ∷ [] = rw e (take-place 0 (82 ∷ 72 ∷ n ∷ T ∷ []) given l) in
+    let head : take 4 buffer₀ ≡ ascii "RH" ++ (n ∷ T ∷ []) = rw e (take-place 0 (ascii "RH" ++ (n ∷ T ∷ [])) given l) in
     record {
       number = c;
       few = so-far-count s;
       bytes =
           ap₂ (λ (x : ℕ) (y : List ℕ). take x y) (sym m) f
           ∙ take-place (4 + 13 * count) (encode (End count)) buffer (omega arith)
-          ∙ ap₂ _++_ (a .bytes ∙ ap (λ (x : List ℕ). x ++ encodeCores 71 82 (concatBelow T (groupsFrom n T ws))) head) (ap (λ (x : ℕ). encode (End x)) c)
-          ∙ append-assoc (82 ∷ 72 ∷ n ∷ T ∷ []) (encodeCores 71 82 (concatBelow T (groupsFrom n T ws))) (encode (End (length (concatBelow T (groupsFrom n T ws)))));
+          ∙ ap₂ _++_ (a .bytes ∙ ap (λ (x : List ℕ). x ++ encodeCores (ascii "GR") (concatBelow T (groupsFrom n T ws))) head) (ap (λ (x : ℕ). encode (End x)) c)
+          ∙ append-assoc (ascii "RH" ++ (n ∷ T ∷ [])) (encodeCores (ascii "GR") (concatBelow T (groupsFrom n T ws))) (encode (End (length (concatBelow T (groupsFrom n T ws)))));
     }

@@ -5,17 +5,23 @@ use Prim.Native.Nat.{ℕ, suc, _+_, _-_, _*_, _≤_, _<_}
 use lib.Dec.{leb, ltb}
 use lib.ListN.{length, getD, take}
 use Rattle.sets.specs.Bools.{_and_}
+use Rattle.sets.specs.Members.{members}
 use Rattle.sets.specs.Tables.{concatBelow, keepIf}
 use Rattle.records.specs.Limits.{maxTicks}
 use Rattle.spans.specs.SpanCores.{SpanCore}
 use Rattle.spans.specs.Reports.{groupsOf}
+use Rattle.groups.specs.declared.encoding.Shown.{Shown}
 use Rattle.spans.specs.Encoding.{maxGroups, encodeCores, reportBytes}
 
+-- what a record of the program shows
+abbrev pub coreOf : Shown → SpanCore
+coreOf r = record { order = r .order; first = r .first; last = r .last; members = members (r .members) }
+
 -- Records with a mark are appended to so many that stand after a header of so many bytes, each in 13 bytes.
-pub record AppendsCores (a b header : ℕ) (cores : List SpanCore) (count count′ : ℕ) (buffer buffer′ : List ℕ) : Type 0 where
+pub record AppendsCores (mark : List ℕ) (header : ℕ) (cores : List SpanCore) (count count′ : ℕ) (buffer buffer′ : List ℕ) : Type 0 where
   pub number : count′ ≡ count + length cores
   pub size : length buffer′ ≡ length buffer
-  pub bytes : take (header + 13 * count′) buffer′ ≡ take (header + 13 * count) buffer ++ encodeCores a b cores
+  pub bytes : take (header + 13 * count′) buffer′ ≡ take (header + 13 * count) buffer ++ encodeCores mark cores
 
 -- the records of the spans that start with a tick, by last tick: those with members whose order is above the next
 unfoldable pub lineList : List ℕ → List ℕ → ℕ → ℕ → List SpanCore

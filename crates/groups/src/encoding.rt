@@ -1,17 +1,27 @@
 // Records of reports and plans, put into memory one after the other.
 ghost use mathlib.Core.Path.{_≡_};
 ghost use mathlib.Core.List.{_∷_, []};
-ghost use Prim.Native.Nat.{_+_, _*_, _≤_, _<_};
+ghost use Prim.Native.Nat.{_+_, _*_, _≤_};
 ghost use lib.ListN.{length};
-ghost use Rattle.records.specs.Limits.{maxTicks};
 ghost use Rattle.spans.specs.Encoding.{encodeCore};
-ghost use Rattle.groups.specs.Appending.{AppendsCores};
+ghost use Rattle.groups.specs.Appending.{coreOf, AppendsCores};
 use log::put;
+use sets::BadgeSet;
 
-// The bytes of a record: its mark, order, first and last tick, and members. A plan's header is laid out alike: its mark, n, T, h, query.
-pub(crate) fn core_bytes(a: u8, b: u8, order: u8, first: u8, last: u8, members: u64) -> [u8; 13]
-    ensures { λ r. ⌜ r ≡ encodeCore a b (record { order = order; first = first; last = last; members = members }) ⌝ }
+// What a record of a report or a plan shows: the order of a core or the score of a part, its span, and its members.
+pub(crate) struct Shown {
+    pub(crate) order: u8,
+    pub(crate) first: u8,
+    pub(crate) last: u8,
+    pub(crate) members: BadgeSet,
+}
+
+// The bytes of a record with a mark. A plan's header is laid out alike: its mark, n, T, h, query.
+pub(crate) fn record_bytes(a: u8, b: u8, shown: Shown) -> [u8; 13]
+    ensures { λ r. ⌜ r ≡ encodeCore (a ∷ b ∷ []) (coreOf shown) ⌝ }
 {
+    let set = shown.members;
+    let members = set.to_word();
     let m1 = members / 256;
     let m2 = m1 / 256;
     let m3 = m2 / 256;
@@ -22,9 +32,9 @@ pub(crate) fn core_bytes(a: u8, b: u8, order: u8, first: u8, last: u8, members: 
     [
         a,
         b,
-        order,
-        first,
-        last,
+        shown.order,
+        shown.first,
+        shown.last,
         (members % 256) as u8,
         (m1 % 256) as u8,
         (m2 % 256) as u8,
@@ -37,21 +47,18 @@ pub(crate) fn core_bytes(a: u8, b: u8, order: u8, first: u8, last: u8, members: 
 }
 
 // Appends a record with a mark to so many that stand after a header of so many bytes, and answers how many there are then.
-pub(crate) fn append_core(
+pub(crate) fn append_record(
     buffer: &mut [u8],
     header: usize,
     count: usize,
     a: u8,
     b: u8,
-    order: u8,
-    first: usize,
-    last: usize,
-    members: u64,
+    shown: Shown,
 ) -> usize
-    requires { ⌜ (header + 13 * count + 13 ≤ length (now buffer)) × (first < maxTicks) × (last < maxTicks) ⌝ }
-    ensures { λ r. ⌜ AppendsCores a b header (record { order = order; first = first; last = last; members = members } ∷ []) count r (now (buffer .entry)) (now (buffer .exit)) ⌝ }
+    requires { ⌜ header + 13 * count + 13 ≤ length (now buffer) ⌝ }
+    ensures { λ r. ⌜ AppendsCores (a ∷ b ∷ []) header (coreOf shown ∷ []) count r (now (buffer .entry)) (now (buffer .exit)) ⌝ }
 {
-    let bytes = core_bytes(a, b, order, first as u8, last as u8, members);
+    let bytes = record_bytes(a, b, shown);
     put(buffer, header + 13 * count, &bytes);
     count + 1
 }

@@ -3,6 +3,7 @@
 // `core_numbers` takes day words and a span to the core number of each badge, `report` takes day words to the report of the day's
 // groups, and `plan` takes day words, a query and a number of parts to the plan of the shift around the query.
 mod answer;
+mod day;
 mod encoding;
 mod lines;
 mod numbers;

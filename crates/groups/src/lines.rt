@@ -6,6 +6,8 @@ ghost use Rattle.sets.specs.Members.{members};
 ghost use Rattle.records.specs.Limits.{maxTicks};
 ghost use Rattle.days.specs.Days.{LentDay};
 ghost use Rattle.groups.specs.Lines.{ScoresBefore, LineFound};
+use crate::day::Size;
+use crate::day::Span;
 use crate::rows::narrow_to;
 use crate::rows::span_rows;
 use crate::rows::united;
@@ -18,20 +20,19 @@ use sets::BadgeSet;
 // the score, and no row is looked at: rows are narrowed only where they are needed. A badge that is in no row is in no core.
 pub(crate) fn find_line(
     words: &[u64],
-    n: usize,
-    ticks: usize,
+    day: Size,
     first: usize,
     query: BadgeSet,
     orders: &mut [u8],
     cores: &mut [u64],
 )
-    requires { ⌜ LentDay n ticks (now words) × (first < ticks) × ScoresBefore n ticks (now words) (members query) first (now orders) × (length (now cores) ≡ maxTicks) ⌝ }
-    ensures { λ _. ⌜ LineFound n ticks (now (words .entry)) (members query) first (now (orders .entry)) (now (orders .exit)) (now (cores .exit)) ⌝ }
+    requires { ⌜ LentDay (day .badges) (day .ticks) (now words) × (first < day .ticks) × ScoresBefore (day .badges) (day .ticks) (now words) (members query) first (now orders) × (length (now cores) ≡ maxTicks) ⌝ }
+    ensures { λ _. ⌜ LineFound (day .badges) (day .ticks) (now (words .entry)) (members query) first (now (orders .entry)) (now (orders .exit)) (now (cores .exit)) ⌝ }
 {
-    let mut rows = span_rows(words, n, ticks, first, first);
+    let mut rows = span_rows(words, day, Span { first, last: first });
     let mut reached = first;
     let mut upper: u8 = 64;
-    for last in first..ticks {
+    for last in first..day.ticks {
         let lower = orders[last];
         if upper <= lower {
             upper = lower;
@@ -39,7 +40,7 @@ pub(crate) fn find_line(
             cores[last] = 0;
             continue;
         }
-        narrow_to(&mut rows, words, n, ticks, first, reached, last);
+        narrow_to(&mut rows, words, day, first, reached, last);
         reached = last;
         let core = highest_core(rows, united(&rows), query, lower, upper);
         let members = core.members;

@@ -7,6 +7,8 @@ ghost use Rattle.groups.specs.Refusals.{writtenOutcome};
 ghost use Rattle.groups.specs.Calls.{spanJudged, coreNumbersOf};
 use crate::answer::Written;
 use crate::answer::delivered;
+use crate::day::Size;
+use crate::day::Span;
 use crate::refusal::Refusal;
 use crate::rows::span_rows;
 use log::Checked;
@@ -32,7 +34,7 @@ fn number_span(
     if ticks <= last {
         return Written::Refused(Refusal::InvalidSpan);
     }
-    let rows = span_rows(words, badges, ticks, first, last);
+    let rows = span_rows(words, Size { badges, ticks }, Span { first, last });
     let numbers = cores::core_numbers(rows, BadgeSet::full(badges));
     delivered(log::deliver(&numbers[..badges], buffer))
 }

@@ -3,6 +3,7 @@ ghost use mathlib.Core.Path.{_≡_};
 ghost use mathlib.Core.List.{_∷_, []};
 ghost use Prim.Native.Nat.{_+_, _*_, _≤_, _<_};
 ghost use lib.ListN.{length};
+ghost use Rattle.sets.specs.Ascii.{ascii};
 ghost use Rattle.sets.specs.Members.{members};
 ghost use Rattle.records.specs.Outcomes.{success};
 ghost use Rattle.days.specs.Calls.{checkOf};
@@ -15,8 +16,11 @@ ghost use Rattle.groups.specs.Calls.{Planned};
 ghost use Rattle.groups.specs.ShiftPlans.{PlanShown};
 use crate::answer::Written;
 use crate::answer::delivered;
-use crate::encoding::append_core;
-use crate::encoding::core_bytes;
+use crate::day::Size;
+use crate::day::Span;
+use crate::encoding::Shown;
+use crate::encoding::append_record;
+use crate::encoding::record_bytes;
 use crate::refusal::Refusal;
 use crate::rows::span_rows;
 use crate::scoring::fill_scores;
@@ -26,9 +30,10 @@ use log::check_words;
 use log::put;
 use log::put_record;
 use sets::BadgeSet;
+use sets::widen;
 
 // The members shown of a part: those of the core of its score, and at score 0 all n badges.
-fn shown(order: u8, core: BadgeSet, n: usize) -> BadgeSet
+fn members_shown(order: u8, core: BadgeSet, n: usize) -> BadgeSet
     ensures { λ r. ⌜ members r ≡ shownMembers order (members core) n ⌝ }
 {
     if order == 0 {
@@ -40,67 +45,50 @@ fn shown(order: u8, core: BadgeSet, n: usize) -> BadgeSet
 // Appends the part of a run, and answers how many there are then.
 fn append_part(
     words: &[u64],
-    n: usize,
-    ticks: usize,
+    day: Size,
     query: BadgeSet,
-    first: usize,
-    last: usize,
+    span: Span,
     buffer: &mut [u8],
     count: usize,
 ) -> usize
-    requires { ⌜ SpanOfDay n ticks (now words) first last × (13 + 13 * count + 13 ≤ length (now buffer)) ⌝ }
-    ensures { λ r. ⌜ AppendsCores 80 84 13 (partOn n (now (words .entry)) (members query) first last ∷ []) count r (now (buffer .entry)) (now (buffer .exit)) ⌝ }
+    requires { ⌜ SpanOfDay (day .badges) (day .ticks) (now words) (span .first) (span .last) × (13 + 13 * count + 13 ≤ length (now buffer)) ⌝ }
+    ensures { λ r. ⌜ AppendsCores (ascii "PT") 13 (partOn (day .badges) (now (words .entry)) (members query) (span .first) (span .last) ∷ []) count r (now (buffer .entry)) (now (buffer .exit)) ⌝ }
 {
-    let rows = span_rows(words, n, ticks, first, last);
-    let core = cores::highest_core(rows, BadgeSet::full(n), query, 0, 64);
-    let members = shown(core.order, core.members, n);
-    append_core(
-        buffer,
-        13,
-        count,
-        b'P',
-        b'T',
-        core.order,
-        first,
-        last,
-        members.to_word(),
-    )
-}
-
-// A byte as a larger number.
-fn widen(x: u8) -> usize
-    ensures { λ r. ⌜ (r ≡ x) × (r < 256) ⌝ }
-{
-    x as usize
+    let rows = span_rows(words, day, span);
+    let core = cores::highest_core(rows, BadgeSet::full(day.badges), query, 0, 64);
+    let part = Shown {
+        order: core.order,
+        first: span.first as u8,
+        last: span.last as u8,
+        members: members_shown(core.order, core.members, day.badges),
+    };
+    append_record(buffer, 13, count, b'P', b'T', part)
 }
 
 // Encodes the plan of a day, cut at the given ends, in a buffer that holds it.
 fn encode_plan(
     words: &[u64],
-    n: usize,
-    ticks: usize,
+    day: Size,
     query: BadgeSet,
     parts: usize,
     ends: &[u8; 96],
     buffer: &mut [u8],
 )
-    requires { ⌜ PlanParts n ticks (now words) (members query) parts (now ends) (now buffer) ⌝ }
-    ensures { λ _. ⌜ EncodesPlan n ticks (now (words .entry)) (members query) parts (now (ends .entry)) (now (buffer .exit)) ⌝ }
+    requires { ⌜ PlanParts (day .badges) (day .ticks) (now words) (members query) parts (now ends) (now buffer) ⌝ }
+    ensures { λ _. ⌜ EncodesPlan (day .badges) (day .ticks) (now (words .entry)) (members query) parts (now (ends .entry)) (now (buffer .exit)) ⌝ }
 {
-    let header = core_bytes(
-        b'P',
-        b'H',
-        n as u8,
-        ticks as u8,
-        parts as u8,
-        query.to_word(),
-    );
-    put(buffer, 0, &header);
+    let header = Shown {
+        order: day.badges as u8,
+        first: day.ticks as u8,
+        last: parts as u8,
+        members: query,
+    };
+    put(buffer, 0, &record_bytes(b'P', b'H', header));
     let mut first: usize = 0;
     let mut count: usize = 0;
     for i in 0..parts {
         let last = widen(ends[i]);
-        let appended = append_part(words, n, ticks, query, first, last, buffer, count);
+        let appended = append_part(words, day, query, Span { first, last }, buffer, count);
         count = appended;
         first = last + 1;
     }
@@ -135,10 +123,11 @@ fn plan_day(
         return Written::Refused(Refusal::InvalidParts);
     }
     let mut scores = [0u8; 9216];
-    fill_scores(words, badges, ticks, query, &mut scores);
+    let day = Size { badges, ticks };
+    fill_scores(words, day, query, &mut scores);
     let ends = cuts::best_ends(&scores, ticks, parts);
     let mut bytes = [0u8; 1267];
-    encode_plan(words, badges, ticks, query, parts, &ends, &mut bytes);
+    encode_plan(words, day, query, parts, &ends, &mut bytes);
     delivered(log::deliver(&bytes[..19 + 13 * parts], buffer))
 }
 

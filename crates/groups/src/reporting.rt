@@ -1,24 +1,27 @@
 // The call that reports the groups of a day.
 ghost use mathlib.Core.Path.{_≡_};
 ghost use mathlib.Core.List.{_∷_, []};
-ghost use Prim.Native.Nat.{_+_, _*_, _≤_, _<_};
+ghost use Prim.Native.Nat.{_+_, _*_, _≤_};
 ghost use lib.Dec.{ltb};
 ghost use lib.ListN.{length};
 ghost use Rattle.sets.specs.Bools.{_and_};
+ghost use Rattle.sets.specs.Ascii.{ascii};
+ghost use Rattle.sets.specs.Members.{members};
 ghost use Rattle.sets.specs.Tables.{keepIf};
-ghost use Rattle.records.specs.Limits.{maxTicks};
 ghost use Rattle.records.specs.Outcomes.{success};
 ghost use Rattle.days.specs.Days.{LentDay};
 ghost use Rattle.log.specs.Buffers.{deliver};
 ghost use Rattle.spans.specs.Reports.{groupsOf};
 ghost use Rattle.spans.specs.Encoding.{maxReportBytes, reportBytes};
 ghost use Rattle.groups.specs.Refusals.{writtenOutcome};
-ghost use Rattle.groups.specs.Appending.{AppendsCores, lineList, LineRoom, EncodesReport};
+ghost use Rattle.groups.specs.Appending.{coreOf, AppendsCores, lineList, LineRoom, EncodesReport};
 ghost use Rattle.groups.specs.Calls.{reportOf};
 ghost use Rattle.groups.specs.GroupReports.{Reported};
 use crate::answer::Written;
 use crate::answer::delivered;
-use crate::encoding::append_core;
+use crate::day::Size;
+use crate::encoding::Shown;
+use crate::encoding::append_record;
 use crate::lines::find_line;
 use crate::refusal::Refusal;
 use log::Checked;
@@ -30,25 +33,18 @@ use sets::BadgeSet;
 
 // Appends a group's record if it has members and its order is above the next: else the span that is one tick longer at its end has a core of
 // the same order.
-fn append_group(
-    buffer: &mut [u8],
-    count: usize,
-    order: u8,
-    next: u8,
-    first: usize,
-    last: usize,
-    members: u64,
-) -> usize
-    requires { ⌜ (4 + 13 * count + 13 ≤ length (now buffer)) × (first < maxTicks) × (last < maxTicks) ⌝ }
-    ensures { λ r. ⌜ AppendsCores 71 82 4 (keepIf (ltb 0 members and ltb next order) (record { order = order; first = first; last = last; members = members } ∷ [])) count r (now (buffer .entry)) (now (buffer .exit)) ⌝ }
+fn append_group(buffer: &mut [u8], count: usize, group: Shown, next: u8) -> usize
+    requires { ⌜ 4 + 13 * count + 13 ≤ length (now buffer) ⌝ }
+    ensures { λ r. ⌜ AppendsCores (ascii "GR") 4 (keepIf (ltb 0 (members (group .members)) and ltb next (group .order)) (coreOf group ∷ [])) count r (now (buffer .entry)) (now (buffer .exit)) ⌝ }
 {
-    if members == 0 {
+    let members = group.members;
+    if members.is_empty() {
         return count;
     }
-    if order <= next {
+    if group.order <= next {
         return count;
     }
-    append_core(buffer, 4, count, b'G', b'R', order, first, last, members)
+    append_record(buffer, 4, count, b'G', b'R', group)
 }
 
 // Appends the groups of the spans that start with a tick, by last tick.
@@ -61,45 +57,42 @@ fn append_line(
     ticks: usize,
 ) -> usize
     requires { ⌜ LineRoom ticks first count (now orders) (now members) (now buffer) ⌝ }
-    ensures { λ r. ⌜ AppendsCores 71 82 4 (lineList (now (orders .entry)) (now (members .entry)) first ticks) count r (now (buffer .entry)) (now (buffer .exit)) ⌝ }
+    ensures { λ r. ⌜ AppendsCores (ascii "GR") 4 (lineList (now (orders .entry)) (now (members .entry)) first ticks) count r (now (buffer .entry)) (now (buffer .exit)) ⌝ }
 {
     let mut so_far = count;
     for last in first..ticks {
-        let appended = append_group(
-            buffer,
-            so_far,
-            orders[last],
-            orders[last + 1],
-            first,
-            last,
-            members[last],
-        );
+        let group = Shown {
+            order: orders[last],
+            first: first as u8,
+            last: last as u8,
+            members: BadgeSet::from_word(members[last]),
+        };
+        let appended = append_group(buffer, so_far, group, orders[last + 1]);
         so_far = appended;
     }
     so_far
 }
 
 // Encodes the report of a day in a buffer that holds any report, and answers how many groups it has.
-fn encode_report(words: &[u64], n: usize, ticks: usize, buffer: &mut [u8]) -> usize
-    requires { ⌜ LentDay n ticks (now words) × (maxReportBytes ≤ length (now buffer)) ⌝ }
-    ensures { λ r. ⌜ EncodesReport n ticks (now (words .entry)) r (now (buffer .exit)) ⌝ }
+fn encode_report(words: &[u64], day: Size, buffer: &mut [u8]) -> usize
+    requires { ⌜ LentDay (day .badges) (day .ticks) (now words) × (maxReportBytes ≤ length (now buffer)) ⌝ }
+    ensures { λ r. ⌜ EncodesReport (day .badges) (day .ticks) (now (words .entry)) r (now (buffer .exit)) ⌝ }
 {
-    let header = [b'R', b'H', n as u8, ticks as u8];
+    let header = [b'R', b'H', day.badges as u8, day.ticks as u8];
     put(buffer, 0, &header);
     let mut orders = [0u8; 97];
     let mut members = [0u64; 96];
     let mut count: usize = 0;
-    for first in 0..ticks {
+    for first in 0..day.ticks {
         find_line(
             words,
-            n,
-            ticks,
+            day,
             first,
             BadgeSet::EMPTY,
             &mut orders,
             &mut members,
         );
-        let appended = append_line(buffer, count, &orders, &members, first, ticks);
+        let appended = append_line(buffer, count, &orders, &members, first, day.ticks);
         count = appended;
     }
     put_record(
@@ -119,7 +112,7 @@ fn deliver_report(words: &[u64], badges: usize, ticks: usize, buffer: &mut [u8])
     ensures leaves { λ _. ⌜ now (buffer .exit) ≡ deliver (success (reportBytes badges ticks (groupsOf badges ticks (now (words .entry))))) (now (buffer .entry)) .buffer ⌝ }
 {
     let mut bytes = [0u8; 60538];
-    let count = encode_report(words, badges, ticks, &mut bytes);
+    let count = encode_report(words, Size { badges, ticks }, &mut bytes);
     delivered(log::deliver(&bytes[..10 + 13 * count], buffer))
 }
 

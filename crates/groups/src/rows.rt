@@ -5,6 +5,8 @@ ghost use lib.ListN.{length};
 ghost use Rattle.sets.specs.Members.{capacity, members};
 ghost use Rattle.spans.specs.Spans.{spanRows, SpanOfDay};
 ghost use Rattle.groups.specs.Steps.{tickRows, narrowed, Narrows, RowsTo, Unites};
+use crate::day::Size;
+use crate::day::Span;
 use sets::BadgeSet;
 
 // The smaller of a tick's number of words and 64.
@@ -40,15 +42,15 @@ pub(crate) fn narrow(rows: &mut [u64], tick: &[u64])
 pub(crate) fn narrow_to(
     rows: &mut [u64],
     words: &[u64],
-    n: usize,
-    ticks: usize,
+    day: Size,
     first: usize,
     reached: usize,
     last: usize,
 )
-    requires { ⌜ SpanOfDay n ticks (now words) first last × RowsTo n (now words) first last (now rows) reached ⌝ }
-    ensures { λ _. ⌜ now (rows .exit) ≡ spanRows n (now (words .entry)) first last ⌝ }
+    requires { ⌜ SpanOfDay (day .badges) (day .ticks) (now words) first last × RowsTo (day .badges) (now words) first last (now rows) reached ⌝ }
+    ensures { λ _. ⌜ now (rows .exit) ≡ spanRows (day .badges) (now (words .entry)) first last ⌝ }
 {
+    let n = day.badges;
     let mut at = reached * n;
     for _ in reached..last {
         at += n;
@@ -67,19 +69,14 @@ pub(crate) fn united(rows: &[u64]) -> BadgeSet
     BadgeSet::from_word(all)
 }
 
-// The rows of the span from tick first to tick last.
-pub(crate) fn span_rows(
-    words: &[u64],
-    n: usize,
-    ticks: usize,
-    first: usize,
-    last: usize,
-) -> [u64; 64]
-    requires { ⌜ SpanOfDay n ticks (now words) first last ⌝ }
-    ensures { λ r. ⌜ r ≡ spanRows n (now (words .entry)) first last ⌝ }
+// The rows of a span.
+pub(crate) fn span_rows(words: &[u64], day: Size, span: Span) -> [u64; 64]
+    requires { ⌜ SpanOfDay (day .badges) (day .ticks) (now words) (span .first) (span .last) ⌝ }
+    ensures { λ r. ⌜ r ≡ spanRows (day .badges) (now (words .entry)) (span .first) (span .last) ⌝ }
 {
-    let at = first * n;
+    let n = day.badges;
+    let at = span.first * n;
     let mut rows = tick_rows(&words[at..at + n]);
-    narrow_to(&mut rows, words, n, ticks, first, first, last);
+    narrow_to(&mut rows, words, day, span.first, span.first, span.last);
     rows
 }

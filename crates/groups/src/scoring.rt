@@ -6,6 +6,7 @@ ghost use Rattle.sets.specs.Members.{members};
 ghost use Rattle.records.specs.Limits.{maxTicks};
 ghost use Rattle.days.specs.Days.{LentDay};
 ghost use Rattle.groups.specs.Scoring.{LinePlaces, LinePut, Scores};
+use crate::day::Size;
 use crate::lines::find_line;
 use sets::BadgeSet;
 
@@ -20,14 +21,14 @@ fn put_line(orders: &[u8], first: usize, ticks: usize, scores: &mut [u8])
 }
 
 // Fills a table with the score of every run of a day: a row for each first tick, a column for each last tick.
-pub(crate) fn fill_scores(words: &[u64], n: usize, ticks: usize, query: BadgeSet, scores: &mut [u8])
-    requires { ⌜ LentDay n ticks (now words) × (length (now scores) ≡ maxTicks * maxTicks) ⌝ }
-    ensures { λ _. ⌜ Scores n ticks (now (words .entry)) (members query) ticks (now (scores .exit)) ⌝ }
+pub(crate) fn fill_scores(words: &[u64], day: Size, query: BadgeSet, scores: &mut [u8])
+    requires { ⌜ LentDay (day .badges) (day .ticks) (now words) × (length (now scores) ≡ maxTicks * maxTicks) ⌝ }
+    ensures { λ _. ⌜ Scores (day .badges) (day .ticks) (now (words .entry)) (members query) (day .ticks) (now (scores .exit)) ⌝ }
 {
     let mut orders = [0u8; 97];
     let mut members = [0u64; 96];
-    for first in 0..ticks {
-        find_line(words, n, ticks, first, query, &mut orders, &mut members);
-        put_line(&orders, first, ticks, scores);
+    for first in 0..day.ticks {
+        find_line(words, day, first, query, &mut orders, &mut members);
+        put_line(&orders, first, day.ticks, scores);
     }
 }

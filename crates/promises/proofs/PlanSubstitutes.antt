@@ -6,6 +6,7 @@ use Prim.Native.Nat.{ℕ, suc, _+_, _-_, _*_, _≤_, _<_}
 use native.Mathlib.Omega.{arith}
 use lib.ListN.{length, getD, take, drop, replicate, length-append, length-replicate}
 use lib.Seq.{take-at}
+use Rattle.sets.specs.Ascii.{ascii}
 use Rattle.sets.specs.Sets.{In, full, size}
 use Rattle.sets.specs.Bytes.{littleEndian}
 use Rattle.sets.proofs.Sets.{none-sub, is-sub-of}
@@ -88,10 +89,10 @@ plan-length : (n T h query : ℕ) (ps : List SpanCore) → length ps ≡ h → l
 unfolding planBytes
 plan-length n T h query ps e = omega (
   arith,
-  length-append (80 ∷ 72 ∷ n ∷ T ∷ h ∷ littleEndian 8 query) (encodeCores 80 84 ps ++ encode (End h)),
-  length-append (encodeCores 80 84 ps) (encode (End h)),
+  length-append (ascii "PH" ++ (n ∷ T ∷ h ∷ littleEndian 8 query)) (encodeCores (ascii "PT") ps ++ encode (End h)),
+  length-append (encodeCores (ascii "PT") ps) (encode (End h)),
   length-little-endian 8 query,
-  encode-cores-length 80 84 ps,
+  encode-cores-length (ascii "PT") refl ps,
   length-encode (End h),
 )
 
@@ -172,8 +173,8 @@ members-all p = members-not-the-core 15 0 refl refl p
 plan-four : (n T h query : ℕ) (ps : List SpanCore) → drop (length (planBytes n T h query ps) - 4) (planBytes n T h query ps) ≡ littleEndian 4 h
 unfolding planBytes
 plan-four n T h query ps =
-    let head : List ℕ = 80 ∷ 72 ∷ n ∷ T ∷ h ∷ littleEndian 8 query in
-    ap (λ (b : List ℕ). drop (length b - 4) b) (sym (append-assoc head (encodeCores 80 84 ps) (encode (End h)))) ∙ last-four (head ++ encodeCores 80 84 ps) h
+    let head : List ℕ = ascii "PH" ++ (n ∷ T ∷ h ∷ littleEndian 8 query) in
+    ap (λ (b : List ℕ). drop (length b - 4) b) (sym (append-assoc head (encodeCores (ascii "PT") ps) (encode (End h)))) ∙ last-four (head ++ encodeCores (ascii "PT") ps) h
 
 -- An ED count that is the same for all plans, whatever else is written.
 module _ (count : ℕ) (call : ℕ → ℕ → List ℕ → ℕ → ℕ → List ℕ → Delivered)

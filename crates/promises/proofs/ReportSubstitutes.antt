@@ -8,6 +8,7 @@ use native.Mathlib.Nat.{le-refl}
 use native.Mathlib.Omega.{arith}
 use lib.ListN.{length, replicate, take, drop, length-append, length-replicate}
 use lib.Seq.{take-at}
+use Rattle.sets.specs.Ascii.{ascii}
 use Rattle.sets.specs.Sets.{full}
 use Rattle.sets.specs.Bytes.{littleEndian, fromLittleEndian}
 use Rattle.sets.proofs.Sets.{sub-antisym}
@@ -172,14 +173,14 @@ same-four front count other rest e = sym (last-four front count) ∙ ap (λ (b :
 module _ (count : ℕ) (groups : ℕ → ℕ → List ℕ → List SpanCore) (call : ℕ → ℕ → List ℕ → List ℕ → Delivered)
     (written : (n T : ℕ) (ws buffer : List ℕ) → LentDay n T ws → length (reportBytes n T (groups n T ws)) ≤ length buffer
     → call n T ws buffer .buffer
-    ≡ ((82 ∷ 72 ∷ n ∷ T ∷ []) ++ (encodeCores 71 82 (groups n T ws) ++ encode (End count))) ++ drop (length (reportBytes n T (groups n T ws))) buffer)
+    ≡ ((ascii "RH" ++ (n ∷ T ∷ [])) ++ (encodeCores (ascii "GR") (groups n T ws) ++ encode (End count))) ++ drop (length (reportBytes n T (groups n T ws))) buffer)
     (p : ReportsGroups call groups) where
   -- it is that of the day's groups
   right-count : {n T : ℕ} {ws : List ℕ} → LentDay n T ws → littleEndian 4 count ≡ littleEndian 4 (length (groups n T ws))
   unfolding reportBytes
   right-count {n} {T} {ws} d =
       let bytes = reportBytes n T (groups n T ws) in
-      same-four ((82 ∷ 72 ∷ n ∷ T ∷ []) ++ encodeCores 71 82 (groups n T ws)) count (length (groups n T ws)) (drop (length bytes) bytes)
+      same-four ((ascii "RH" ++ (n ∷ T ∷ [])) ++ encodeCores (ascii "GR") (groups n T ws)) count (length (groups n T ws)) (drop (length bytes) bytes)
       (sym (written n T ws bytes d (le-refl _)) ∙ ap (λ (x : Delivered). x .buffer) (p .succeeds n T ws bytes d (le-refl _)))
 
   pub end-count-fixed : ⊥
@@ -187,6 +188,6 @@ module _ (count : ℕ) (groups : ℕ → ℕ → List ℕ → List SpanCore) (ca
   end-count-fixed =
       let xs = groups 4 3 d1Words in
       let a : littleEndian 4 (length xs) ≡ littleEndian 4 0 = sym (right-count d1-lent) ∙ right-count still-lent ∙ ap (λ (x : List SpanCore). littleEndian 4 (length x)) (none-still p) in
-      let b : drop (length (reportBytes 4 3 xs) - 4) (reportBytes 4 3 xs) ≡ littleEndian 4 0 = last-four ((82 ∷ 72 ∷ 4 ∷ 3 ∷ []) ++ encodeCores 71 82 xs) (length xs) ∙ a in
+      let b : drop (length (reportBytes 4 3 xs) - 4) (reportBytes 4 3 xs) ≡ littleEndian 4 0 = last-four ((ascii "RH" ++ (4 ∷ 3 ∷ [])) ++ encodeCores (ascii "GR") xs) (length xs) ∙ a in
       let c : xs ≡ [] = sym (p .said 4 3 d1Words d1-lent) ∙ ap (λ (x : List ℕ). decodeCores (fromLittleEndian x) (drop 4 (reportBytes 4 3 xs))) b in
       List·Memᴰ·not-nil (rw c at (d1-triple xs (p .stated 4 3 d1Words d1-lent)))

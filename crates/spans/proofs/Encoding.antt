@@ -4,22 +4,23 @@ use mathlib.Core.List.{List, [], _∷_, _++_, append-assoc}
 use Prim.Native.Nat.{ℕ, _*_}
 use native.Mathlib.Omega.{arith}
 use lib.ListN.{length, length-append}
+use Rattle.sets.specs.Bytes.{littleEndian}
 use Rattle.sets.proofs.Bytes.{length-little-endian}
 use Rattle.spans.specs.SpanCores.{SpanCore}
 use Rattle.spans.specs.Encoding.{encodeCore, encodeCores}
 
 -- a record has 13 bytes
-pub encode-core-length : (a b : ℕ) (c : SpanCore) → length (encodeCore a b c) ≡ 13
+pub encode-core-length : (mark : List ℕ) → length mark ≡ 2 → (c : SpanCore) → length (encodeCore mark c) ≡ 13
 unfolding encodeCore
-encode-core-length a b c = omega (arith, length-little-endian 8 (c .members))
+encode-core-length mark two c = omega (arith, length-append mark (c .order ∷ c .first ∷ c .last ∷ littleEndian 8 (c .members)), length-little-endian 8 (c .members))
 
 -- records one after the other
-pub encode-cores-length : (a b : ℕ) (cs : List SpanCore) → length (encodeCores a b cs) ≡ 13 * length cs
+pub encode-cores-length : (mark : List ℕ) → length mark ≡ 2 → (cs : List SpanCore) → length (encodeCores mark cs) ≡ 13 * length cs
 unfolding encodeCores
-encode-cores-length a b [] = refl
-encode-cores-length a b (c ∷ cs) = omega (arith, length-append (encodeCore a b c) (encodeCores a b cs), encode-core-length a b c, encode-cores-length a b cs)
+encode-cores-length mark two [] = refl
+encode-cores-length mark two (c ∷ cs) = omega (arith, length-append (encodeCore mark c) (encodeCores mark cs), encode-core-length mark two c, encode-cores-length mark two cs)
 
-pub encode-cores-append : (a b : ℕ) (xs ys : List SpanCore) → encodeCores a b (xs ++ ys) ≡ encodeCores a b xs ++ encodeCores a b ys
+pub encode-cores-append : (mark : List ℕ) (xs ys : List SpanCore) → encodeCores mark (xs ++ ys) ≡ encodeCores mark xs ++ encodeCores mark ys
 unfolding encodeCores
-encode-cores-append a b [] ys = refl
-encode-cores-append a b (x ∷ xs) ys = rw (encode-cores-append a b xs ys, append-assoc)
+encode-cores-append mark [] ys = refl
+encode-cores-append mark (x ∷ xs) ys = rw (encode-cores-append mark xs ys, append-assoc)

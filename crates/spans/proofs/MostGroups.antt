@@ -8,6 +8,7 @@ use native.Mathlib.Omega.{arith}
 use lib.Dec.{leb}
 use lib.ListN.{length, length-append}
 use borrow.Author.Tests.{leb-true, leb-false}
+use Rattle.sets.specs.Ascii.{ascii}
 use Rattle.sets.specs.Tables.{concatBelow, keepIf}
 use Rattle.sets.proofs.Concat.{keep-nil, keep-le, concat-from, concat-triangle}
 use Rattle.records.specs.declared.record.Record.the-variants.{End}
@@ -24,7 +25,7 @@ use Rattle.spans.proofs.Encoding.{encode-cores-length}
 pub report-length : (n T : ℕ) (groups : List SpanCore) → length (reportBytes n T groups) ≡ 10 + 13 * length groups
 unfolding reportBytes
 report-length n T groups =
-    omega (arith, length-append (encodeCores 71 82 groups) (encode (End (length groups))), encode-cores-length 71 82 groups, length-encode (End (length groups)))
+    omega (arith, length-append (encodeCores (ascii "GR") groups) (encode (End (length groups))), encode-cores-length (ascii "GR") refl groups, length-encode (End (length groups)))
 
 module _ (n T : ℕ) (ws : List ℕ) where
   -- at most one for each last tick from the first tick on

@@ -2,6 +2,7 @@
 use mathlib.Core.List.{List, [], _∷_, _++_}
 use Prim.Native.Nat.{ℕ, zero, suc, _-_}
 use lib.ListN.{length, getD, take, drop}
+use Rattle.sets.specs.Ascii.{ascii}
 use Rattle.sets.specs.Bytes.{littleEndian, fromLittleEndian}
 use Rattle.records.specs.declared.record.Record.the-variants.{End}
 use Rattle.records.specs.Records.{encode}
@@ -14,22 +15,22 @@ maxGroups = 4656
 abbrev pub maxReportBytes : ℕ
 maxReportBytes = 60538
 
--- a record: its mark, "order, first tick, last tick, members as an 8-byte set with bit u for badge u"
-unfoldable pub encodeCore : ℕ → ℕ → SpanCore → List ℕ
-encodeCore a b c = a ∷ b ∷ c .order ∷ c .first ∷ c .last ∷ littleEndian 8 (c .members)
+-- a record: its mark of two letters, "order, first tick, last tick, members as an 8-byte set with bit u for badge u"
+unfoldable pub encodeCore : List ℕ → SpanCore → List ℕ
+encodeCore mark c = mark ++ (c .order ∷ c .first ∷ c .last ∷ littleEndian 8 (c .members))
 
-unfoldable pub encodeCores : ℕ → ℕ → List SpanCore → List ℕ
-encodeCores a b [] = []
-encodeCores a b (c ∷ cs) = encodeCore a b c ++ encodeCores a b cs
+unfoldable pub encodeCores : List ℕ → List SpanCore → List ℕ
+encodeCores mark [] = []
+encodeCores mark (c ∷ cs) = encodeCore mark c ++ encodeCores mark cs
 
 -- "A report is RH (n, T), then GR records .., then ED with their count."
 unfoldable pub reportBytes : ℕ → ℕ → List SpanCore → List ℕ
-reportBytes n T groups = (82 ∷ 72 ∷ n ∷ T ∷ []) ++ (encodeCores 71 82 groups ++ encode (End (length groups)))
+reportBytes n T groups = (ascii "RH" ++ (n ∷ T ∷ [])) ++ (encodeCores (ascii "GR") groups ++ encode (End (length groups)))
 
 -- "A plan is PH (n, T, h, query as an 8-byte set), then h PT records laid out as GR with the part's score for the order, then ED with h as
 -- its count."
 unfoldable pub planBytes : ℕ → ℕ → ℕ → ℕ → List SpanCore → List ℕ
-planBytes n T h query parts = (80 ∷ 72 ∷ n ∷ T ∷ h ∷ littleEndian 8 query) ++ (encodeCores 80 84 parts ++ encode (End h))
+planBytes n T h query parts = (ascii "PH" ++ (n ∷ T ∷ h ∷ littleEndian 8 query)) ++ (encodeCores (ascii "PT") parts ++ encode (End h))
 
 -- the record that 13 bytes say, and the records that so many times 13 bytes say
 unfoldable pub decodeCore : List ℕ → SpanCore

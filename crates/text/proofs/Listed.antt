@@ -4,6 +4,7 @@ use mathlib.Core.List.{List, [], _∷_, _++_, append-assoc}
 use Prim.Native.Nat.{ℕ, suc, _+_, _-_, _*_, _/_, _^_, _≤_, _<_}
 use native.Mathlib.Omega.{arith}
 use lib.ListN.{length, drop, length-append}
+use Rattle.sets.specs.Ascii.{ascii}
 use Rattle.records.specs.declared.record.Record.{Record}
 use Rattle.records.specs.declared.record.Record.the-variants.{End}
 use Rattle.records.specs.Limits.{wordsFor, maxWords}
@@ -40,8 +41,8 @@ pub report-shown : (n T : ℕ) (groups : List SpanCore) (rest : List ℕ) → ((
 unfolding shownLines reportBytes
 report-shown n T groups rest h =
     let count : (length (reportBytes n T groups) - 10) / 13 ≡ length groups = omega (arith, report-length n T groups) in
-    let said = decode-cores 71 82 groups (encode (End (length groups)) ++ rest) h in
-    rw (count, append-assoc (encodeCores 71 82 groups) (encode (End (length groups))) rest, said)
+    let said = decode-cores (ascii "GR") refl groups (encode (End (length groups)) ++ rest) h in
+    rw (count, append-assoc (encodeCores (ascii "GR") groups) (encode (End (length groups))) rest, said)
 
 -- the words of an accepted log, with any words after them, are a lent day
 module _ (log : List ℕ) (rs : List Record) (e : judge log ≡ success rs) where

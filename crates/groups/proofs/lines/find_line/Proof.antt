@@ -13,11 +13,11 @@ use Rattle.groups.proofs.lines.find_line.Statement.{statement}
 use Rattle.groups.proofs.lines.find_line.Tie as tie
 
 abbrev Inv-loop : tie.InvT-loop
-Inv-loop words n ticks first query orders₀ cores₀ rows₀ reached₀ upper₀ last₀ orders cores rows reached upper last =
-    Finding n ticks words (members query) first orders₀ last rows reached upper orders cores
+Inv-loop words day first query orders₀ cores₀ rows₀ reached₀ upper₀ last₀ last-end orders cores rows reached upper last =
+    Finding (day .badges) (day .ticks) words (members query) first orders₀ last rows reached upper orders cores
 
 abbrev μ-loop : tie.MeasureT-loop
-μ-loop words n ticks first query orders₀ cores₀ rows₀ reached₀ upper₀ last₀ orders cores rows reached upper last = ticks - last
+μ-loop words day first query orders₀ cores₀ rows₀ reached₀ upper₀ last₀ last-end orders cores rows reached upper last = day .ticks - last
 
 -- what is asked of the span that ends with the last tick at hand, and that this tick is a place of both lists
 abbrev Turn : Type 0
@@ -25,7 +25,7 @@ Turn = tie.In-loop Inv-loop μ-loop
 
 asked : (i : Turn) →
     let l = i .before .loop in
-    let a = i .before .before .before .before .before .before .args in CoreAsked (a .n) (a .ticks) (a .words .now) (members (a .query)) (a .first) (l .last) (getD (l .orders) (l .last) 0) (l .upper) (l .rows) (l .reached)
+    let a = i .before .before .before .before .before .before .args in CoreAsked (a .day .badges) (a .day .ticks) (a .words .now) (members (a .query)) (a .first) (l .last) (getD (l .orders) (l .last) 0) (l .upper) (l .rows) (l .reached)
 asked i =
     let p = i .before .before .before .before .before .before .pre in
     finding-asks (p .0) (p .1) (p .2) (i .before .loop .inv) (i .loop-test .taken)
@@ -106,7 +106,7 @@ slice-write-cores-2 : tie.Need-slice-write-cores-2 Inv-loop μ-loop
 slice-write-cores-2 c = at-cores (turn (c .before))
 
 add-last-2 : tie.Need-add-last-2 Inv-loop μ-loop
-add-last-2 c = search needs
+add-last-2 c = omega (arith, small (turn (c .before)))
 
 loop-less-2 : tie.Need-loop-less-2 Inv-loop μ-loop
 loop-less-2 c = search needs

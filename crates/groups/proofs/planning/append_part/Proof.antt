@@ -1,5 +1,5 @@
 -- `append_part` meets its contract: the order and the members found from the rows of the run are those of its part.
-use mathlib.Core.Path.{_∙_}
+use Prim.Native.Nat.{_<_}
 use native.Mathlib.Omega.{arith}
 use borrow.Author.Needs.{needs}
 use Rattle.sets.specs.Members.{members}
@@ -17,34 +17,39 @@ full-requires c κs = search needs
 highest-core-requires : tie.Need-highest-core-requires
 highest-core-requires c κs = search needs
 
-shown-requires : tie.Need-shown-requires
-shown-requires c κs = search needs
-
-to-word-requires : tie.Need-to-word-requires
-to-word-requires c κs = search needs
-
-append-core-requires : tie.Need-append-core-requires
-append-core-requires c κs =
-    let p = c .before .before .before .before .before .before .before .before .pre in
-    let d = p .0 in
+-- no tick is large
+small : (c : tie.After-highest-core) → let p = c .before .before .before .before .before .args in (p .span .first < 256) × (p .span .last < 256)
+small c =
+    let d = c .before .before .before .before .before .pre .0 in
     let l = limits-of (d .lent .limits) in
-    (p .1, omega (arith, d .rising, d .inside, l .short), omega (arith, d .inside, l .short))
+    (omega (arith, d .rising, d .inside, l .short), omega (arith, d .inside, l .short))
+
+cast-t11 : tie.Need-cast-t11
+cast-t11 c = omega (arith, small (c .before) .0)
+
+cast-t12 : tie.Need-cast-t12
+cast-t12 c = omega (arith, small (c .before .before) .1)
+
+members-shown-requires : tie.Need-members-shown-requires
+members-shown-requires c κs = search needs
+
+append-record-requires : tie.Need-append-record-requires
+append-record-requires c κs = c .before .before .before .before .before .before .before .before .before .pre .1
 
 same-length : tie.Need-same-length
 same-length c = search needs
 
 returns : tie.Need-returns
 returns c =
-    let w = c .before .before .before in
-    let s = w .before .before in
-    let h = s .before in
+    let s = c .before .before .before .before in
+    let h = s .before .before .before in
     let r = h .before .before in
     let start = r .before .before .before in
     let a = start .args in
     let few = limits-of (start .pre .0 .lent .limits) .few in
-    let found = part-found (a .n) (a .words .now) (members (a .query)) (a .first) (a .last) few (r .span-rows .ensures) in
-    let e = found (h .before .full .ensures) (h .highest-core .ensures .order) (h .highest-core .ensures .members) (w .to-word .ensures ∙ s .shown .ensures) in
-    rw e at (c .before .before .append-core .ensures)
+    let found = part-found (a .day .badges) (a .words .now) (members (a .query)) (a .span .first) (a .span .last) few (r .span-rows .ensures) in
+    let e = found (h .before .full .ensures) (h .highest-core .ensures .order) (h .highest-core .ensures .members) (s .members-shown .ensures) in
+    rw e at (c .before .before .append-record .ensures)
 
 pub append-part-spec : {M : Type 1} → statement M
 append-part-spec =
@@ -53,8 +58,9 @@ append-part-spec =
     span-rows-requires
     full-requires
     highest-core-requires
-    shown-requires
-    to-word-requires
-    append-core-requires
+    cast-t11
+    cast-t12
+    members-shown-requires
+    append-record-requires
     same-length
     returns)

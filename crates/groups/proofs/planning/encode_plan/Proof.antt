@@ -1,35 +1,30 @@
 -- `encode_plan` meets its contract: before the turn of part i the parts before it are appended, and it starts after the end of the last.
-use mathlib.Core.Path.{ap, _∙_}
-use Prim.Native.Nat.{ℕ, _-_}
+use Prim.Native.Nat.{_-_}
 use native.Mathlib.Omega.{arith}
 use borrow.Author.Needs.{needs}
 use Rattle.sets.specs.Members.{members}
 use Rattle.records.proofs.WithinLimits.{limits-of}
-use Rattle.spans.specs.Encoding.{encodeCore}
 use Rattle.groups.proofs.PlanBytes.{PlanSoFar, parts-few, plan-none, plan-few, plan-span, plan-room, plan-next, plan-end}
 use Rattle.groups.proofs.planning.encode_plan.Statement.{statement}
 use Rattle.groups.proofs.planning.encode_plan.Tie as tie
 
 abbrev Inv-loop : tie.InvT-loop
-Inv-loop words n ticks query parts ends buffer₀ first₀ count₀ i₀ buffer first count i = PlanSoFar n ticks words (members query) parts ends i first count buffer₀ buffer
+Inv-loop words day query parts ends buffer₀ first₀ count₀ i₀ buffer first count i = PlanSoFar (day .badges) (day .ticks) words (members query) parts ends i first count buffer₀ buffer
 
 abbrev μ-loop : tie.MeasureT-loop
-μ-loop words n ticks query parts ends buffer₀ first₀ count₀ i₀ buffer first count i = parts - i
+μ-loop words day query parts ends buffer₀ first₀ count₀ i₀ buffer first count i = parts - i
 
-cast-core-bytes : tie.Need-cast-core-bytes Inv-loop μ-loop
-cast-core-bytes c = omega (arith, limits-of (c .before .before .pre .lent .limits) .few)
+cast-t13 : tie.Need-cast-t13 Inv-loop μ-loop
+cast-t13 c = omega (arith, limits-of (c .before .before .before .pre .lent .limits) .few)
 
-cast-core-bytes-2 : tie.Need-cast-core-bytes-2 Inv-loop μ-loop
-cast-core-bytes-2 c = omega (arith, limits-of (c .before .before .pre .lent .limits) .short)
+cast-t14 : tie.Need-cast-t14 Inv-loop μ-loop
+cast-t14 c = omega (arith, limits-of (c .before .before .before .before .pre .lent .limits) .short)
 
-cast-core-bytes-3 : tie.Need-cast-core-bytes-3 Inv-loop μ-loop
-cast-core-bytes-3 c = omega (arith, parts-few (c .before .before .pre))
+cast-t15 : tie.Need-cast-t15 Inv-loop μ-loop
+cast-t15 c = omega (arith, parts-few (c .before .before .before .before .pre))
 
-to-word-requires : tie.Need-to-word-requires Inv-loop μ-loop
-to-word-requires c κs = search needs
-
-core-bytes-requires : tie.Need-core-bytes-requires Inv-loop μ-loop
-core-bytes-requires c κs = search needs
+record-bytes-requires : tie.Need-record-bytes-requires Inv-loop μ-loop
+record-bytes-requires c κs = search needs
 
 slice-aggregate-put : tie.Need-slice-aggregate-put Inv-loop μ-loop
 slice-aggregate-put c = search needs
@@ -38,7 +33,7 @@ put-requires : tie.Need-put-requires Inv-loop μ-loop
 put-requires c κs = search needs
 
 loop-holds : tie.Need-loop-holds Inv-loop μ-loop
-loop-holds c = plan-none (omega arith) (c .before .before .before .before .before .before .before .before .before .pre)
+loop-holds c = plan-none (omega arith) (c .before .before .before .before .before .before .before .before .before .before .pre)
 
 element-copy-out-widen : tie.Need-element-copy-out-widen Inv-loop μ-loop
 element-copy-out-widen c = omega (arith, parts-few (c .before .loop .inv .asked), c .loop-test .taken)
@@ -81,10 +76,8 @@ same-length c = search needs
 
 returns : tie.Need-returns Inv-loop μ-loop
 returns c =
-    let b = c .before .before .before .before .before .before .before .before .before .before .before in
-    let a = b .before .before .before .before .args in
-    let e = b .core-bytes .ensures ∙ ap (λ (m : ℕ). encodeCore 80 72 (record { order = a .n; first = a .ticks; last = a .parts; members = m })) (b .before .to-word .ensures) in
-    plan-end _ _ _ (c .before .before .before .before .before .loop .inv) (omega (arith, c .before .before .before .before .loop-test .left)) (omega (arith, c .before .before .before .before .before .loop .inv .asked .room)) e (c .before .before .before .before .before .before .before .before .put .ensures) (c .before .before .put-record .ensures)
+    let l = c .before .before .before .before .before in
+    plan-end _ _ _ (l .loop .inv) (omega (arith, c .before .before .before .before .loop-test .left)) (omega (arith, l .loop .inv .asked .room)) (l .before .before .before .before .before .record-bytes .ensures) (l .before .before .before .put .ensures) (c .before .before .put-record .ensures)
 
 pub encode-plan-spec : {M : Type 1} → statement M
 encode-plan-spec =
@@ -92,11 +85,10 @@ encode-plan-spec =
     (tie.spec
     Inv-loop
     μ-loop
-    cast-core-bytes
-    cast-core-bytes-2
-    cast-core-bytes-3
-    to-word-requires
-    core-bytes-requires
+    cast-t13
+    cast-t14
+    cast-t15
+    record-bytes-requires
     slice-aggregate-put
     put-requires
     loop-holds

@@ -4,6 +4,7 @@ use Prim.Native.Nat.{_-_, _≤_}
 use native.Mathlib.Numerals.{add-one}
 use native.Mathlib.Omega.{arith}
 use borrow.Author.Needs.{needs}
+use Rattle.sets.specs.Ascii.{ascii}
 use Rattle.sets.specs.Tables.{concatBelow}
 use Rattle.groups.specs.Appending.{AppendsCores, lineList}
 use Rattle.groups.proofs.Appended.{appends-none, lineCell, line-none, line-more, cells-le}
@@ -12,7 +13,7 @@ use Rattle.groups.proofs.reporting.append_line.Tie as tie
 
 abbrev Inv-loop : tie.InvT-loop
 Inv-loop buffer₀ count orders members first ticks so-far₀ last₀ buffer so-far last =
-    (first ≤ last) × (last ≤ ticks) × AppendsCores 71 82 4 (concatBelow last (lineCell orders members first)) count so-far buffer₀ buffer
+    (first ≤ last) × (last ≤ ticks) × AppendsCores (ascii "GR") 4 (concatBelow last (lineCell orders members first)) count so-far buffer₀ buffer
 
 abbrev μ-loop : tie.MeasureT-loop
 μ-loop buffer₀ count orders members first ticks so-far₀ last₀ buffer so-far last = ticks - last
@@ -25,25 +26,33 @@ loop-holds c =
 shared-slice-read-append-group : tie.Need-shared-slice-read-append-group Inv-loop μ-loop
 shared-slice-read-append-group c = search needs
 
+cast-t14 : tie.Need-cast-t14 Inv-loop μ-loop
+cast-t14 c = let p = c .before .before .before .before .before .before .pre in omega (arith, p .short, p .inside)
+
+cast-t15 : tie.Need-cast-t15 Inv-loop μ-loop
+cast-t15 c = let p = c .before .before .before .before .before .before .pre in omega (arith, p .short, c .before .loop-test .taken)
+
+mul-from-word : tie.Need-mul-from-word Inv-loop μ-loop
+mul-from-word c = search needs
+
+shared-slice-read-from-word : tie.Need-shared-slice-read-from-word Inv-loop μ-loop
+shared-slice-read-from-word c = search needs
+
+from-word-requires : tie.Need-from-word-requires Inv-loop μ-loop
+from-word-requires c κs = search needs
+
 add-append-group : tie.Need-add-append-group Inv-loop μ-loop
 add-append-group c = search needs
 
 shared-slice-read-append-group-2 : tie.Need-shared-slice-read-append-group-2 Inv-loop μ-loop
 shared-slice-read-append-group-2 c = search needs
 
-mul-append-group : tie.Need-mul-append-group Inv-loop μ-loop
-mul-append-group c = search needs
-
-shared-slice-read-append-group-3 : tie.Need-shared-slice-read-append-group-3 Inv-loop μ-loop
-shared-slice-read-append-group-3 c = search needs
-
 append-group-requires : tie.Need-append-group-requires Inv-loop μ-loop
 append-group-requires c κs =
-    let i = c .before .before .before .before .before .loop in
-    let s = c .before .before .before .before .before .before .before .before .before in
+    let i = c .before .before .before .before .before .before .loop in
+    let s = c .before .before .before .before .before .before .before .before .before .before in
     let a = s .args in
-    let p = s .pre in
-    (omega (arith, i .inv .2 .number, i .inv .2 .size, cells-le (a .orders .now) (a .members .now) (a .first) (i .last), p .room), omega (arith, p .short, p .inside), omega (arith, p .short))
+    omega (arith, i .inv .2 .number, i .inv .2 .size, cells-le (a .orders .now) (a .members .now) (a .first) (i .last), s .pre .room)
 
 add-last : tie.Need-add-last Inv-loop μ-loop
 add-last c = search needs
@@ -53,9 +62,9 @@ loop-less c = search needs
 
 loop-again : tie.Need-loop-again Inv-loop μ-loop
 loop-again c =
-    let i = c .before .before .before .before .before .before .before .before .loop in
-    let a = c .before .before .before .before .before .before .before .before .before .before .before .before .args in
-    (search needs, search needs, line-more (a .orders .now) (a .members .now) (a .first) (i .last) (i .inv .0) (i .inv .2) (rw add-one at (c .before .before .append-group .ensures)))
+    let i = c .before .before .before .before .before .before .before .before .before .loop in
+    let a = c .before .before .before .before .before .before .before .before .before .before .before .before .before .args in
+    (search needs, search needs, line-more (a .orders .now) (a .members .now) (a .first) (i .last) (i .inv .0) (i .inv .2) (rw (add-one, c .before .before .before .before .before .from-word .ensures) at (c .before .before .append-group .ensures)))
 
 same-length : tie.Need-same-length Inv-loop μ-loop
 same-length c = search needs
@@ -74,10 +83,13 @@ append-line-spec =
     μ-loop
     loop-holds
     shared-slice-read-append-group
+    cast-t14
+    cast-t15
+    mul-from-word
+    shared-slice-read-from-word
+    from-word-requires
     add-append-group
     shared-slice-read-append-group-2
-    mul-append-group
-    shared-slice-read-append-group-3
     append-group-requires
     add-last
     loop-less

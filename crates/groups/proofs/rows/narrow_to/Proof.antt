@@ -10,13 +10,13 @@ use Rattle.groups.proofs.rows.narrow_to.Statement.{statement}
 use Rattle.groups.proofs.rows.narrow_to.Tie as tie
 
 abbrev Inv-loop : tie.InvT-loop
-Inv-loop rows₀ words n ticks first reached last at₀ counter₀ rows at counter = Going n words first last counter at rows
+Inv-loop rows₀ words first reached last n at₀ counter₀ rows at counter = Going n words first last counter at rows
 
 abbrev μ-loop : tie.MeasureT-loop
-μ-loop rows₀ words n ticks first reached last at₀ counter₀ rows at counter = last - counter
+μ-loop rows₀ words first reached last n at₀ counter₀ rows at counter = last - counter
 
 -- the words of the next tick are among the words
-inside : (c : tie.In-loop Inv-loop μ-loop) → let a = c .before .before .before .before .args in c .before .loop .at + a .n + a .n ≤ length (a .words .now)
+inside : (c : tie.In-loop Inv-loop μ-loop) → let a = c .before .before .before .before .args in c .before .loop .at + a .day .badges + a .day .badges ≤ length (a .words .now)
 inside c = next-inside (c .before .before .before .before .pre .0) (c .before .loop .inv) (c .loop-test .taken)
 
 mul-at : tie.Need-mul-at Inv-loop μ-loop

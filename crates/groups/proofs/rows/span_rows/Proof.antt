@@ -8,8 +8,8 @@ use Rattle.groups.proofs.rows.span_rows.Statement.{statement}
 use Rattle.groups.proofs.rows.span_rows.Tie as tie
 
 -- the words of the first tick are among the words
-inside : (c : tie.After-shared-slice-known) → let a = c .before .args in a .first * a .n + a .n ≤ length (a .words .now)
-inside c = tick-inside _ (c .before .pre) (c .before .pre .rising)
+inside : (c : tie.After-struct-known) → let a = c .before .before .args in a .span .first * a .day .badges + a .day .badges ≤ length (a .words .now)
+inside c = let p = c .before .before .pre in tick-inside _ p (p .rising)
 
 mul-at : tie.Need-mul-at
 mul-at c = omega (arith, inside c)
@@ -36,7 +36,7 @@ slice-aggregate-narrow-to : tie.Need-slice-aggregate-narrow-to
 slice-aggregate-narrow-to c = search needs
 
 narrow-to-requires : tie.Need-narrow-to-requires
-narrow-to-requires c κs = let t = c .before in let p = t .before .before .before .pre in (p, first-rows p (t .tick-rows .ensures))
+narrow-to-requires c κs = let t = c .before in let p = t .before .before .before .before .pre in (p, first-rows p (t .tick-rows .ensures))
 
 returns : tie.Need-returns
 returns c = search needs

@@ -9,10 +9,10 @@ use Rattle.groups.proofs.scoring.fill_scores.Statement.{statement}
 use Rattle.groups.proofs.scoring.fill_scores.Tie as tie
 
 abbrev Inv-loop : tie.InvT-loop
-Inv-loop words n ticks query scores₀ orders₀ cores₀ first₀ scores orders cores first = ScoredBefore n ticks words (members query) first orders cores scores
+Inv-loop words day query scores₀ orders₀ cores₀ first₀ first-end scores orders cores first = ScoredBefore (day .badges) (day .ticks) words (members query) first orders cores scores
 
 abbrev μ-loop : tie.MeasureT-loop
-μ-loop words n ticks query scores₀ orders₀ cores₀ first₀ scores orders cores first = ticks - first
+μ-loop words day query scores₀ orders₀ cores₀ first₀ first-end scores orders cores first = day .ticks - first
 
 loop-holds : tie.Need-loop-holds Inv-loop μ-loop
 loop-holds c = let p = c .before .before .pre in scored-none (p .0) _ (p .1)
