@@ -29,9 +29,10 @@ use Rattle.spans.specs.Encoding.{encodeCore, encodeCores, reportBytes, planByte
 use Rattle.groups.specs.Calls.{coreNumberBytes, spanJudged, coreNumbersOf, reportOf, planJudged, planOf}
 use Rattle.text.specs.Decimal.{decimalIn, decimal}
 use Rattle.text.specs.Listing.{field, headLine, memberList, groupLine, refusalLine, reportLines, judgedLines, joined, listing}
-use Rattle.cases.specs.RecordBytes.{badges, BH, CT, ED, RH, GR, PH, PT}
+use Rattle.promises.specs.D1.{badges, d1Words}
+use Rattle.cases.specs.RecordBytes.{BH, CT, ED, RH, GR, PH, PT}
 use Rattle.cases.specs.Rows.{Holds}
-use Rattle.cases.specs.Table.{sevens, d1Log, d1Words, d1Variant, d1Report, changingLog, changingWords, emptyLog, emptyWords, equalBadges, starred}
+use Rattle.cases.specs.Table.{sevens, d1Log, d1Variant, d1Report, changingLog, changingWords, emptyLog, emptyWords, equalBadges, starred}
 use Rattle.cases.specs.Further.{nestedLog, nestedWords, further}
 use Rattle.cases.specs.Example.{exampleLog, exampleWords, exampleTidy, example}
 use Rattle.cases.proofs.Cuttings.{inFront, cuttingsFrom, cuttings, withSum}

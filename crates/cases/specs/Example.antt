@@ -2,7 +2,8 @@
 use mathlib.Core.List.{List, [], _∷_, _++_}
 use Prim.Native.Nat.{ℕ}
 use Rattle.records.specs.Outcomes.{success}
-use Rattle.cases.specs.RecordBytes.{badges, BH, CT, ED, RH, GR, PH, PT}
+use Rattle.promises.specs.D1.{badges}
+use Rattle.cases.specs.RecordBytes.{BH, CT, ED, RH, GR, PH, PT}
 use Rattle.cases.specs.Rows.{Row, read, tidy, core-numbers, report, plan, plan-ends, listing, length-of}
 use Rattle.cases.specs.Table.{sevens, accepted}
 

@@ -3,9 +3,10 @@ use mathlib.Core.List.{List, [], _∷_, _++_}
 use Prim.Native.Nat.{ℕ}
 use Rattle.records.specs.Outcomes.{refused, success}
 use Rattle.sets.specs.Ascii.{ascii}
-use Rattle.cases.specs.RecordBytes.{badges, BH, CT, ED, RH, GR}
+use Rattle.promises.specs.D1.{badges, d1Words}
+use Rattle.cases.specs.RecordBytes.{BH, CT, ED, RH, GR}
 use Rattle.cases.specs.Rows.{Row, read, tidy, write, core-numbers, report, plan, listing}
-use Rattle.cases.specs.Table.{sevens, accepted, d1Log, d1Words, d1Variant, changingWords, emptyLog, emptyWords, equalBadges}
+use Rattle.cases.specs.Table.{sevens, accepted, d1Log, d1Variant, changingWords, emptyLog, emptyWords, equalBadges}
 
 -- n 4, T 3: 2–3 in ticks 0 to 2, and 0–1, 0–2, 1–2 in tick 1, as a log and in words
 unfoldable pub nestedLog : List ℕ

@@ -1,13 +1,8 @@
--- Records in bytes, as document 01's section "Records" lays them out, and sets by their badges. They are written down here a second time: a
+-- Records in bytes, as document 01's section "Records" lays them out. They are written down here a second time: a
 -- row of the table names no encoder of the calls.
 use mathlib.Core.List.{List, [], _∷_, _++_}
-use Prim.Native.Nat.{ℕ, _+_, _^_}
+use Prim.Native.Nat.{ℕ}
 use Rattle.sets.specs.Ascii.{ascii}
-
--- the set of these badges, each named once: badge u is bit u
-unfoldable pub badges : List ℕ → ℕ
-badges [] = 0
-badges (u ∷ us) = 2 ^ u + badges us
 
 -- a number below 256 in 4 bytes, and a set of badges below 8 in 8 bytes, the lowest byte first
 abbrev pub in4 : ℕ → List ℕ

@@ -5,7 +5,8 @@ use Prim.Native.Nat.{ℕ}
 use lib.ListN.{replicate}
 use Rattle.records.specs.Outcomes.{Outcome, refused, success}
 use Rattle.records.specs.Verdicts.{Values}
-use Rattle.cases.specs.RecordBytes.{badges, BH, CT, ED, RH, GR, PH, PT}
+use Rattle.promises.specs.D1.{badges, d1Words}
+use Rattle.cases.specs.RecordBytes.{BH, CT, ED, RH, GR, PH, PT}
 use Rattle.cases.specs.Rows.{Row, read, tidy, write, core-numbers, report, plan, plan-ends, length-of}
 
 -- lent memory of so many bytes or words, all 7
@@ -19,13 +20,6 @@ accepted n T contacts = success (record { badges = n; ticks = T; contacts = cont
 -- "D1: n 4, T 3, contacts 0–1, 0–2 and 1–2 in ticks 0 to 1, and 2–3 in ticks 0 to 2." As a log:
 unfoldable pub d1Log : List ℕ
 d1Log = BH 4 3 ++ CT 0 1 0 1 ++ CT 0 2 0 1 ++ CT 1 2 0 1 ++ CT 2 3 0 2 ++ ED 4
-
--- In words, one for each badge, tick after tick:
-unfoldable pub d1Words : List ℕ
-d1Words =
-    (badges (1 ∷ 2 ∷ []) ∷ badges (0 ∷ 2 ∷ []) ∷ badges (0 ∷ 1 ∷ 3 ∷ []) ∷ badges (2 ∷ []) ∷ [])
-    ++ (badges (1 ∷ 2 ∷ []) ∷ badges (0 ∷ 2 ∷ []) ∷ badges (0 ∷ 1 ∷ 3 ∷ []) ∷ badges (2 ∷ []) ∷ [])
-    ++ (badges [] ∷ badges [] ∷ badges (3 ∷ []) ∷ badges (2 ∷ []) ∷ [])
 
 -- "With 0–1 given instead as last records 1–0 tick 1 and 0–1 tick 0 (40 bytes, count 5)"
 unfoldable pub d1Variant : List ℕ

@@ -1,4 +1,4 @@
--- Laws of the definitions in specs/, from the bottom up. Other crates cite NumbersCall and PlanCall.
+-- Laws of the definitions in specs/, from the bottom up. Other crates cite NumbersCall, ReportTheorems and PlanCall.
 
 -- the rows of spans, and the loop that narrows them
 pub mod TickRows

@@ -1,4 +1,4 @@
--- The promises proved of the calls, and substitutes refuted. No other crate cites them.
+-- The promises proved of the calls, and substitutes refuted. The listing's crate cites ReadTheorems and WordsAfter; no other crate cites any.
 
 -- reading, tidying and writing
 pub mod ReadTheorems

@@ -12,7 +12,8 @@ use Rattle.spans.specs.Spans.{SpanOfDay, spanNeighbours}
 use Rattle.groups.specs.Calls.{coreNumbersOf}
 use Rattle.promises.specs.CoreNumbers.{GivesCoreNumbers}
 use Rattle.promises.proofs.NumberTheorems.{gives-core-numbers}
-use Rattle.promises.proofs.SmallDays.{computing, d1Words, still, d1-lent, still-lent}
+use Rattle.promises.specs.D1.{d1Words}
+use Rattle.promises.proofs.SmallDays.{computing, still, d1-lent, still-lent}
 
 -- The promise leaves no choice: on every span of a day, lent enough, a call that keeps it does what ours does.
 pub promised-numbers : (call : ℕ → ℕ → List ℕ → ℕ → ℕ → List ℕ → Delivered) → GivesCoreNumbers call

@@ -30,7 +30,8 @@ use Rattle.spans.proofs.Encoding.{encode-cores-length}
 use Rattle.spans.proofs.Decoding.{last-four}
 use Rattle.spans.proofs.PlanParts.{order-le, parts-stated}
 use Rattle.groups.specs.ShiftPlans.{PlansShift, PlansShifts}
-use Rattle.promises.proofs.SmallDays.{computing, d1Words, d1-lent}
+use Rattle.promises.specs.D1.{d1Words}
+use Rattle.promises.proofs.SmallDays.{computing, d1-lent}
 
 -- The statement leaves no choice of the sum: two lists of which it holds have the same.
 pub sums-same : {n T : ℕ} {ws : List ℕ} {base query h : ℕ} (xs ys : List SpanCore) → PlanStatement n T ws base query h xs → PlanStatement n T ws base query h ys

@@ -28,7 +28,8 @@ use Rattle.spans.proofs.Decoding.{last-four}
 use Rattle.spans.proofs.MostGroups.{report-length}
 use Rattle.spans.proofs.GroupLists.{groups-stated}
 use Rattle.groups.specs.GroupReports.{ReportsGroups}
-use Rattle.promises.proofs.SmallDays.{computing, d1Words, still, d1-lent, still-lent}
+use Rattle.promises.specs.D1.{d1Words}
+use Rattle.promises.proofs.SmallDays.{computing, still, d1-lent, still-lent}
 
 -- a record of the same order, span and members is the same
 same-core : (c d : SpanCore) → Has d (c .order) (c .first) (c .last) → d .members ≡ c .members → d ≡ c

@@ -1,6 +1,6 @@
 -- Days of four badges and three ticks, by which substitutes are refuted: document 01's D1, and a day without contacts.
 use mathlib.Core.Path.{refl}
-use mathlib.Core.List.{List, [], _∷_}
+use mathlib.Core.List.{List}
 use Prim.Native.Nat.{ℕ}
 use native.Mathlib.Omega.{arith}
 use lib.ListN.{replicate}
@@ -23,19 +23,16 @@ use Rattle.spans.specs.SpanCores.{coreOn, hasCore}
 use Rattle.spans.specs.Reports.{asLarge, same, isMaximal, isGroup, groupsOn, groupsFrom, groupsOf}
 use Rattle.spans.specs.Plans.{scoreOn, partOn, partsFrom}
 use Rattle.spans.specs.PlanStatement.{sumOfOrders}
+use Rattle.promises.specs.D1.{badges, d1Words}
 use Rattle.groups.specs.Calls.{coreNumberBytes, spanJudged, coreNumbersOf}
 
--- D1, n 4 and T 3: contacts 0–1, 0–2 and 1–2 in ticks 0 to 1, and 2–3 in ticks 0 to 2; one word a badge, tick after tick
-unfoldable pub d1Words : List ℕ
-d1Words = 6 ∷ 5 ∷ 11 ∷ 4 ∷ 6 ∷ 5 ∷ 11 ∷ 4 ∷ 0 ∷ 0 ∷ 8 ∷ 4 ∷ []
-
--- as many words without contacts
+-- as many words as D1 has, without contacts
 unfoldable pub still : List ℕ
 still = replicate 12 0
 
 -- all that is computed with
 unfoldable pub computing : ℕ
-unfolding d1Words still _and_ _or_ isnt all bit intersection setOf full filterIn filter sizeIn size tabulate withinLimits refuseIf andThen neighbours adjacent isTick isDay deliver checkOf degree strip strips core largest coreNumber isSpan throughout spanNeighbours coreNumberBytes spanJudged coreNumbersOf concatBelow keepIf coreOn hasCore asLarge same isMaximal isGroup groupsOn groupsFrom groupsOf isSub contains score scoreOn partOn partsFrom fellows firstGreatest sumWith bestSum endAfter endsFrom bestEnds sumOfOrders
+unfolding badges d1Words still _and_ _or_ isnt all bit intersection setOf full filterIn filter sizeIn size tabulate withinLimits refuseIf andThen neighbours adjacent isTick isDay deliver checkOf degree strip strips core largest coreNumber isSpan throughout spanNeighbours coreNumberBytes spanJudged coreNumbersOf concatBelow keepIf coreOn hasCore asLarge same isMaximal isGroup groupsOn groupsFrom groupsOf isSub contains score scoreOn partOn partsFrom fellows firstGreatest sumWith bestSum endAfter endsFrom bestEnds sumOfOrders
 computing = 0
 
 -- both are lent days

@@ -20,7 +20,8 @@ use Rattle.days.specs.Calls.{Read}
 use Rattle.log.specs.Tidy.{runStart, runEnds, runAt, runsOf, rowRuns, tidyContacts}
 use Rattle.log.specs.Buffers.{Delivered}
 use Rattle.promises.specs.WrittenDays.{HasRuns, logBytes, Writes}
-use Rattle.promises.proofs.SmallDays.{computing, d1Words, still, d1-lent, still-lent}
+use Rattle.promises.specs.D1.{d1Words}
+use Rattle.promises.proofs.SmallDays.{computing, still, d1-lent, still-lent}
 use Rattle.promises.proofs.WriteTheorems.{day-runs}
 
 -- the runs of D1, and of the day without contacts

@@ -3,3 +3,5 @@ pub mod Reading
 pub mod Tidying
 pub mod WrittenDays
 pub mod CoreNumbers
+-- the day on which they are tried
+pub mod D1
