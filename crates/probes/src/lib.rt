@@ -1,0 +1,98 @@
+// Calls that C does not have, exported for the tests in Rust alone: the listing in pieces, and the cores of any rows. Each function is thin over
+// public functions, which its comment names, and leaves what they leave. A slice is a pointer and a length, an array a pointer.
+mod answers;
+
+ghost use mathlib.Core.Path.{_≡_};
+ghost use lib.ListN.{getD};
+ghost use Rattle.cores.specs.Rows.{coreNumbers, IsPeeled, IsHighest};
+ghost use Rattle.probes.specs.Listings.{listedOf, linesOf};
+use answers::listing_answer;
+use sets::BadgeSet;
+use text::Written;
+
+// text::prepare of a log, and then text::lines, from a line on, of what it answers and leaves.
+#[no_mangle]
+pub extern "C" fn probe_listing(
+    log: &[u8],
+    words: &mut [u64],
+    report: &mut [u8],
+    from: usize,
+    out: &mut [u8],
+    answer: &mut [u64; 5],
+)
+    ensures answer { λ _. ⌜ now (answer .exit) ≡ listedOf (now (log .entry)) (now (words .entry)) (now (report .entry)) from (now (out .entry)) .answer ⌝ }
+    ensures words { λ _. ⌜ now (words .exit) ≡ listedOf (now (log .entry)) (now (words .entry)) (now (report .entry)) from (now (out .entry)) .words ⌝ }
+    ensures report { λ _. ⌜ now (report .exit) ≡ listedOf (now (log .entry)) (now (words .entry)) (now (report .entry)) from (now (out .entry)) .report ⌝ }
+    ensures leaves { λ _. ⌜ now (out .exit) ≡ listedOf (now (log .entry)) (now (words .entry)) (now (report .entry)) from (now (out .entry)) .out ⌝ }
+{
+    let prepared = text::prepare(log, words, report);
+    let piece = text::lines(prepared, report, from, out);
+    *answer = listing_answer(prepared, piece);
+}
+
+// text::lines, from a line on, of a report of so many bytes that prepare left.
+#[no_mangle]
+pub extern "C" fn probe_lines(
+    size: usize,
+    report: &[u8],
+    from: usize,
+    out: &mut [u8],
+    answer: &mut [u64; 5],
+)
+    ensures answer { λ _. ⌜ now (answer .exit) ≡ linesOf size (now (report .entry)) from (now (out .entry)) .answer ⌝ }
+    ensures leaves { λ _. ⌜ now (out .exit) ≡ linesOf size (now (report .entry)) from (now (out .entry)) .out ⌝ }
+{
+    let prepared = Written::Bytes(size);
+    let piece = text::lines(prepared, report, from, out);
+    *answer = listing_answer(prepared, piece);
+}
+
+// cores::peel: the answer has the members of the core, as a set, and their least degree.
+#[no_mangle]
+pub extern "C" fn probe_peel(
+    rows: &[u64; 64],
+    base: u64,
+    order: usize,
+    out: &mut [u64; 64],
+    answer: &mut [u64; 2],
+)
+    ensures { λ _. ⌜ IsPeeled (now (rows .entry)) base order (now (out .exit)) (getD (now (answer .exit)) 0 0) (getD (now (answer .exit)) 1 0) ⌝ }
+{
+    let peeled = cores::peel(*rows, BadgeSet::from_word(base), order);
+    let left = peeled.rows;
+    *out = left;
+    *answer = [peeled.members.to_word(), peeled.least as u64];
+}
+
+// cores::core_numbers.
+#[no_mangle]
+pub extern "C" fn probe_core_numbers(rows: &[u64; 64], base: u64, out: &mut [u8; 64])
+    ensures { λ _. ⌜ now (out .exit) ≡ coreNumbers (now (rows .entry)) base ⌝ }
+{
+    *out = cores::core_numbers(*rows, BadgeSet::from_word(base));
+}
+
+// cores::highest_core: the answer has the order of the core and its members, as a set.
+#[no_mangle]
+pub extern "C" fn probe_highest_core(
+    rows: &[u64; 64],
+    base: u64,
+    query: u64,
+    above: u8,
+    most: u8,
+    out: &mut [u64; 64],
+    answer: &mut [u64; 2],
+)
+    ensures { λ _. ⌜ IsHighest (now (rows .entry)) base query above most (getD (now (answer .exit)) 0 0) (getD (now (answer .exit)) 1 0) (now (out .exit)) ⌝ }
+{
+    let core = cores::highest_core(
+        *rows,
+        BadgeSet::from_word(base),
+        BadgeSet::from_word(query),
+        above,
+        most,
+    );
+    let left = core.rows;
+    *out = left;
+    *answer = [core.order as u64, core.members.to_word()];
+}
