@@ -7,7 +7,7 @@
 
 mod baselines;
 mod days;
-#[path = "../../tests/random/mod.rs"]
+#[path = "../../tests/all/support/random.rs"]
 mod random;
 
 use std::time::Instant;

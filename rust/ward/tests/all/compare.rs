@@ -1,0 +1,167 @@
+//! Every call against the model: random inputs, long and short, valid and damaged, all sizes.
+
+use crate::model;
+use crate::support::calls::{day_of, read, tidy};
+use crate::support::days::random_day;
+use crate::support::handed::Handed;
+use crate::support::logs::{damage, random_log};
+use crate::support::random::Random;
+use crate::support::seen::all_seen;
+use crate::tidying::settles;
+
+/// Sizes near the exact one, and some that are not.
+fn near(random: &mut Random, exact: usize) -> usize {
+    match random.below(6) {
+        0 => exact.saturating_sub(1),
+        1 => exact + 1,
+        2 => exact + random.below(40),
+        3 => random.below(exact + 1),
+        _ => exact,
+    }
+}
+
+/// Read and tidy, lent about as much as they need; and the tidy log.
+fn compare_log(random: &mut Random, log: &[u8]) {
+    let day = day_of(log, usize::MAX).map(|(day, _)| day);
+    let lent = near(random, day.as_ref().map_or(20, |day| day.n * day.ticks));
+    let room = near(random, day.as_ref().map_or(30, |day| 10 + 6 * day.runs().len()));
+    _ = read(log, lent);
+    if let Ok(tidied) = tidy(log, lent, room) {
+        settles(&tidied);
+    }
+}
+
+fn compare_random_log(random: &mut Random, n: usize, ticks: usize, most: usize) {
+    let count = random.below(most + 1);
+    let mut log = random_log(random, n, ticks, count);
+    if random.below(2) == 0 {
+        damage(random, &mut log);
+    }
+    compare_log(random, &log);
+}
+
+#[test]
+fn logs() {
+    let mut random = Random(1);
+    for i in 0..200_000 {
+        let (n, ticks) = (1 + random.below(7), 1 + random.below(6));
+        compare_random_log(&mut random, n, ticks, if i % 1000 == 0 { 8000 } else { 12 });
+    }
+    all_seen("read", &[1, 2, 3, 4, 6, 7, 8]);
+    all_seen("tidy", &[1, 2, 3, 4, 6, 7, 8, 9]);
+}
+
+#[test]
+fn logs_of_all_sizes() {
+    let mut random = Random(2);
+    for n in 1..=64 {
+        for ticks in 1..=96 {
+            let most = if ticks % 96 == n { 8000 } else { 40 };
+            compare_random_log(&mut random, n, ticks, most);
+        }
+    }
+    for n in 0..=255 {
+        for ticks in [0, 1, 96, 97, 255] {
+            compare_log(&mut random, &model::log_bytes(n, ticks, &[]));
+            compare_log(&mut random, &model::log_bytes(ticks, n, &[]));
+        }
+    }
+}
+
+#[test]
+fn longest_logs() {
+    let mut random = Random(3);
+    let contacts: Vec<[u8; 4]> = (0..8001).map(|i| [(i % 63) as u8, 63, (i % 96) as u8, 95]).collect();
+    for count in [7999, 8000, 8001] {
+        let log = model::log_bytes(64, 96, &contacts[..count]);
+        for cut in 0..14 {
+            compare_log(&mut random, &log[..log.len() - cut]);
+            compare_log(&mut random, &log);
+        }
+    }
+    all_seen("read", &[1, 5, 8]);
+    all_seen("tidy", &[1, 5, 8, 9]);
+}
+
+/// A tick of the day, or one after it.
+fn tick(random: &mut Random, ticks: usize) -> usize {
+    if random.below(16) == 0 { usize::MAX - random.below(2) } else { random.below(ticks.min(96) + 1) }
+}
+
+/// Every call on words, into buffers of about the exact size.
+fn compare_words(random: &mut Random, words: &[u64], n: usize, ticks: usize) {
+    let day = Handed::new(words, n, ticks);
+    let mut room = |answer: Result<Vec<u8>, _>| near(random, answer.map_or(40, |bytes| bytes.len()));
+    _ = day.write(room(day.log()));
+    _ = day.report(room(day.groups()));
+    let (first, last) = (tick(random, ticks), tick(random, ticks));
+    let room = near(random, n.min(64));
+    _ = day.core_numbers(first, last, room);
+    let (query, parts) = (random_query(random, n), random_parts(random, ticks));
+    let room = near(random, day.plan_size(query, parts).unwrap_or(40));
+    _ = day.plan(query, parts, room);
+}
+
+/// Of the n badges mostly, often few of them, and sometimes none.
+fn random_query(random: &mut Random, n: usize) -> u64 {
+    let badges = if n < 64 && random.below(8) != 0 { (1 << n) - 1 } else { u64::MAX };
+    let query = (0..random.below(5)).fold(badges, |query, _| query & random.next());
+    if random.below(8) == 0 { 0 } else { query }
+}
+
+/// Up to one more than there are ticks.
+fn random_parts(random: &mut Random, ticks: usize) -> usize {
+    if random.below(32) == 0 { usize::MAX } else { random.below(ticks.min(96) + 2) }
+}
+
+/// A random day, with words after it; in half of the cases damaged, or handed over with another size or too few words.
+fn compare_random_day(random: &mut Random, n: usize, ticks: usize) {
+    let (density, keep) = (random.below(101), random.below(101));
+    let mut words = random_day(random, n, ticks, density, keep).words();
+    words.extend((0..random.below(3)).map(|_| random.next()));
+    let (mut handed_n, mut handed_ticks) = (n, ticks);
+    match random.below(8) {
+        0 => {
+            let at = random.below(words.len());
+            words[at] ^= 1 << random.below(64);
+        }
+        1 => words.truncate(random.below(words.len() + 1)),
+        2 => handed_n = [0, 65, usize::MAX, n + 1][random.below(4)],
+        3 => handed_ticks = [0, 97, usize::MAX, ticks + 1][random.below(4)],
+        _ => {}
+    }
+    compare_words(random, &words, handed_n, handed_ticks);
+}
+
+#[test]
+fn days() {
+    let mut random = Random(4);
+    for i in 0..60_000 {
+        let (n, ticks) = (1 + random.below(if i % 50 == 0 { 24 } else { 8 }), 1 + random.below(if i % 50 == 0 { 20 } else { 7 }));
+        compare_random_day(&mut random, n, ticks);
+    }
+    all_seen("write", &[8, 9, 10, 11]);
+    all_seen("core numbers", &[8, 9, 10, 11, 12]);
+    all_seen("report", &[8, 9, 10, 11]);
+    all_seen("plan", &[8, 9, 10, 11, 13, 14]);
+}
+
+/// Every number of ticks and every number of badges, in two pairings.
+#[test]
+fn days_of_all_sizes() {
+    let mut random = Random(5);
+    for step in [7, 63] {
+        for ticks in 1..=96 {
+            compare_random_day(&mut random, 1 + step * ticks % 64, ticks);
+        }
+    }
+}
+
+#[test]
+fn largest_days() {
+    let mut random = Random(6);
+    for (density, keep) in [(5, 80), (50, 0), (90, 80), (100, 100), (0, 0)] {
+        let words = random_day(&mut random, 64, 96, density, keep).words();
+        compare_words(&mut random, &words, 64, 96);
+    }
+}

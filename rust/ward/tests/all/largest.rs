@@ -1,0 +1,93 @@
+//! The largest days, of 64 badges and 96 ticks, whose answers a rule gives; and days without contacts.
+
+use crate::model;
+use crate::plans::sum;
+use crate::support::days::{core_with_one_away, day_by, one_away};
+use crate::support::handed::Handed;
+use crate::support::lent::Lent;
+
+/// The records of a plan.
+fn parts(plan: &[u8]) -> Vec<(usize, usize, usize, u64)> {
+    let members = |part: &[u8]| u64::from_le_bytes(part[5..13].try_into().expect("eight bytes"));
+    let record = |part: &[u8]| (part[2] as usize, part[3] as usize, part[4] as usize, members(part));
+    plan[13..plan.len() - 6].chunks(13).map(record).collect()
+}
+
+/// One group of order 63, and every part of every plan around all badges has order 63.
+#[test]
+fn all_in_contact() {
+    let words = day_by(64, 96, |_, _, _| true).words();
+    for ticks in [1, 2, 96] {
+        let day = Handed::new(&words, 64, ticks);
+        assert_eq!(day.report(23), Ok(model::report_bytes(64, ticks, &[(63, 0, ticks - 1, u64::MAX)])));
+        assert_eq!(day.report(22), Err((9, 0)));
+        for h in (1..=ticks).step_by(19) {
+            let plan = day.plan(u64::MAX, h, 1300).expect("a plan");
+            assert_eq!(sum(&plan), 63 * h);
+            assert!(parts(&plan).iter().all(|part| (part.0, part.3) == (63, u64::MAX)));
+        }
+    }
+}
+
+/// One badge away in each tick: a group on each span of at most 62 ticks, 97·62 - (1 + .. + 62) = 4,061 in all, since every longer span has a smaller order.
+/// In the best plan one part is as long as can be, and all others have one tick and order 62.
+#[test]
+fn one_badge_away_in_each_tick() {
+    let day = Handed::new(&one_away().words(), 64, 96);
+    let spans = (0..96).flat_map(|first| (first..96).map(move |last| core_with_one_away(first, last)));
+    let report = model::report_bytes(64, 96, &spans.filter(|core| core.0 > 0).collect::<Vec<_>>());
+    assert_eq!(report.len(), 10 + 13 * 4061);
+    for room in [53000, 52803] {
+        assert_eq!(day.report(room), Ok(report.clone()));
+    }
+    assert_eq!(day.report(52802), Err((9, 0)));
+
+    for h in (1..=96).step_by(19) {
+        let plan = day.plan(0, h, 1300).expect("a plan");
+        assert_eq!(sum(&plan), 62 * (h - 1) + if h < 35 { 0 } else { h - 34 });
+        assert!(parts(&plan).iter().all(|part| *part == core_with_one_away(part.1, part.2)));
+    }
+}
+
+/// A word too few; a last tick of T; a number of parts above T; a byte too few; and in the last tick a bit without its mirror.
+#[test]
+fn refusals() {
+    let (last, mut words) = (1 << 63, [0; 6144]);
+    let few = Handed::new(&words[..6143], 64, 96);
+    assert_eq!(few.core_numbers(0, 95, 64), Err((8, 0)));
+    assert_eq!(few.report(9), Err((8, 0)));
+    assert_eq!(few.plan(last, 2, 44), Err((8, 0)));
+    let empty = Handed::new(&words, 64, 96);
+    assert_eq!(empty.core_numbers(0, 96, 64), Err((12, 0)));
+    assert_eq!(empty.core_numbers(0, 95, 63), Err((9, 0)));
+    assert_eq!(empty.report(9), Err((9, 0)));
+    assert_eq!(empty.plan(last, 97, 9), Err((14, 0)));
+    assert_eq!(empty.plan(last, 2, 44), Err((9, 0)));
+    words[6143] = 1;
+    let broken = Handed::new(&words, 64, 96);
+    assert_eq!(broken.core_numbers(0, 95, 63), Err((11, 0)));
+    assert_eq!(broken.report(44), Err((11, 0)));
+    assert_eq!(broken.plan(last, 2, 44), Err((11, 0)));
+}
+
+/// Days without contacts of every size, with words after them: all core numbers are 0, the report has no group, and the tidy log no contact.
+#[test]
+fn without_contacts() {
+    let words = [0; 6144];
+    for n in 1..=64 {
+        for ticks in 1..=96 {
+            let (mut numbers, mut report, mut log) = (Lent::room(n), Lent::room(10), Lent::room(10));
+            assert_eq!(ward::core_numbers(&words, n, ticks, 0, ticks - 1, numbers.slice()), Ok(n));
+            assert_eq!(ward::report(&words, n, ticks, report.slice()), Ok(10));
+            assert_eq!(ward::write(&words, n, ticks, log.slice()), Ok(10));
+            numbers.holds(&vec![0; n]);
+            report.holds(&model::report_bytes(n, ticks, &[]));
+            log.holds(&model::log_bytes(n as u8, ticks as u8, &[]));
+        }
+        for ticks in [1, 96] {
+            let day = Handed::new(&words, n, ticks);
+            assert_eq!(day.core_numbers(0, ticks - 1, n), Ok(vec![0; n]));
+            assert_eq!(day.report(10), Ok(model::report_bytes(n, ticks, &[])));
+        }
+    }
+}

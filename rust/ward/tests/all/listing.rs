@@ -1,0 +1,173 @@
+//! The listing: texts written by hand, damaged logs, the longest logs, and what is lent to it.
+
+use crate::model;
+use crate::support::d1::{MESSY, TIDY};
+use crate::support::days::{away_once, day_by, groups_with_away_once, log_of};
+use crate::support::listings::{Listing, listed};
+use crate::support::logs::{damage, put_contact, random_log, with_one_byte_changed};
+use crate::support::random::Random;
+
+const D1: &str = "badges 4 ticks 3 groups 2\norder 2 ticks 0 to 1 badges 0 1 2\norder 1 ticks 0 to 2 badges 2 3\n";
+
+/// A text, lent as many words and bytes as are enough for every log.
+fn text_of(log: &[u8]) -> String {
+    listed(log, 6144, 60538)
+}
+
+#[test]
+fn d1() {
+    assert_eq!((text_of(TIDY), text_of(MESSY)), (D1.to_string(), D1.to_string()));
+}
+
+/// Short logs, with lines written by hand from document 01's rules.
+const BY_HAND: &[(&[u8], &str)] = &[
+    (b"", "refused 1 at 0\n"),
+    (b"B", "refused 1 at 0\n"),
+    (b"BH\x04", "refused 1 at 0\n"),
+    (b"BH\x04\x03", "refused 1 at 4\n"),
+    (b"BH\x04\x03CT\x00\x01\x00\x01", "refused 1 at 10\n"),
+    (b"RH\x04\x03ED\x00\x00\x00\x00", "refused 2 at 0\n"),
+    (b"BH\x04\x03GR\x00\x00\x00\x00", "refused 2 at 4\n"),
+    (b"BH\x41\x03ED\x00\x00\x00\x00", "refused 3 at 0\n"),
+    (b"BH\x04\x61ED\x00\x00\x00\x00", "refused 3 at 0\n"),
+    (b"BH\x04\x03CT\x00\x00\x00\x01ED\x01\x00\x00\x00", "refused 4 at 4\n"),
+    (b"BH\x04\x03CT\x00\x01\x00\x01CT\x00\x01\x00\x03ED\x02\x00\x00\x00", "refused 4 at 10\n"),
+    (b"BH\x04\x03CT\x00\x01\x00\x01ED\x02\x00\x00\x00", "refused 6 at 10\n"),
+    (b"BH\x04\x03ED\x00\x00\x00\x00\n", "refused 7 at 10\n"),
+    // without contacts; three badges of which the first changes its partner; badges 10 and 63 in the last tick of a day of full size
+    (b"BH\x04\x03ED\x00\x00\x00\x00", "badges 4 ticks 3 groups 0\n"),
+    (b"BH\x01\x01ED\x00\x00\x00\x00", "badges 1 ticks 1 groups 0\n"),
+    (b"BH\x40\x60ED\x00\x00\x00\x00", "badges 64 ticks 96 groups 0\n"),
+    (
+        b"BH\x03\x02CT\x00\x01\x00\x00CT\x02\x00\x01\x01ED\x02\x00\x00\x00",
+        "badges 3 ticks 2 groups 2\norder 1 ticks 0 to 0 badges 0 1\norder 1 ticks 1 to 1 badges 0 2\n",
+    ),
+    (b"BH\x40\x60CT\x3f\x0a\x5f\x5fED\x01\x00\x00\x00", "badges 64 ticks 96 groups 1\norder 1 ticks 95 to 95 badges 10 63\n"),
+];
+
+#[test]
+fn by_hand() {
+    for (log, text) in BY_HAND {
+        assert_eq!(text_of(log), *text);
+    }
+}
+
+/// The log is judged first, then the words, then the bytes for D1's report of 36.
+#[test]
+fn too_little_lent() {
+    for (len, lent, room, text) in [(34, 11, 36, "8 at 0"), (34, 0, 0, "8 at 0"), (34, 12, 35, "9 at 0"), (34, 12, 0, "9 at 0"), (4, 0, 0, "1 at 4")]
+    {
+        assert_eq!(listed(&TIDY[..len], lent, room), format!("refused {text}\n"));
+    }
+}
+
+/// Each number of words up to 20, and of bytes up to 49: of D1's logs, for which 12 and 36 are enough, and of logs that are refused, the second after good
+/// contacts.
+#[test]
+fn words_and_bytes_lent() {
+    let refused: [&[u8]; 2] = [b"BH\x04\x61ED\x00\x00\x00\x00", b"BH\x04\x03CT\x00\x01\x00\x01CT\x02\x03\x00\x03ED\x02\x00\x00\x00"];
+    for lent in 0..=20 {
+        for room in 0..50 {
+            let text = if lent < 12 {
+                "refused 8 at 0\n"
+            } else if room < 36 {
+                "refused 9 at 0\n"
+            } else {
+                D1
+            };
+            assert_eq!(listed(TIDY, lent, room), text);
+            assert_eq!(listed(MESSY, lent, room), text);
+            assert_eq!(listed(refused[0], lent, room), "refused 3 at 0\n");
+            assert_eq!(listed(refused[1], lent, room), "refused 4 at 10\n");
+        }
+    }
+}
+
+#[test]
+fn prefixes_of_d1() {
+    for log in [&TIDY[..], &MESSY[..]] {
+        for len in 0..=log.len() {
+            listed(&log[..len], 400, 1400);
+        }
+    }
+}
+
+/// A change can make the day larger.
+#[test]
+fn d1_with_one_byte_changed() {
+    for changed in with_one_byte_changed(TIDY).chain(with_one_byte_changed(MESSY)) {
+        listed(&changed, 400, 1400);
+    }
+}
+
+/// Random logs, some of them damaged: small ones, and ones with badges and ticks of two digits.
+#[test]
+fn random_logs() {
+    let mut random = Random(51);
+    for (logs, n, ticks, most) in [(10_000, 6, 5, 12), (1000, 12, 14, 60)] {
+        for _ in 0..logs {
+            let (n, ticks, count) = (1 + random.below(n), 1 + random.below(ticks), random.below(most + 1));
+            let mut log = random_log(&mut random, n, ticks, count);
+            if random.below(3) == 0 {
+                damage(&mut random, &mut log);
+            }
+            listed(&log, 400, 1400);
+        }
+    }
+}
+
+/// 64 badges all in contact all day: one group.
+#[test]
+fn all_64_in_contact() {
+    let day = day_by(64, 96, |_, _, _| true);
+    let (log, listing) = (log_of(&day), Listing::of_day(&day, &[(63, 0, 95, u64::MAX)]));
+    let badges: String = (0..64).map(|v| format!(" {v}")).collect();
+    let text = format!("badges 64 ticks 96 groups 1\norder 63 ticks 0 to 95 badges{badges}\n");
+    assert_eq!(listing.whole(&log, 6180, 60538, 65536), text);
+    assert_eq!(listed(&log, 6143, 60538), "refused 8 at 0\n");
+}
+
+/// Badge t away from all others in tick t, for each t up to 63: 2,078 groups.
+#[test]
+fn many_groups() {
+    let (day, groups) = (away_once(), groups_with_away_once());
+    assert_eq!(groups.len(), 2078);
+    let (log, listing) = (log_of(&day), Listing::of_day(&day, &groups));
+    listing.whole(&log, 6180, 60538, 65536);
+    listing.whole(&log, 6144, 27024, 65536);
+    assert_eq!(listed(&log, 6144, 27023), "refused 9 at 0\n");
+}
+
+/// A log of n 4 and T 3 with so many contacts: 0–1, 1–2 and 2–3 in turn, in tick 0 and in ticks 0 to 1 by turns.
+fn repeats(count: usize) -> Vec<u8> {
+    let contacts: Vec<[u8; 4]> = (0..count).map(|k| [k % 3, k % 3 + 1, 0, k % 2].map(|x| x as u8)).collect();
+    model::log_bytes(4, 3, &contacts)
+}
+
+/// 8,000 contacts pass. A byte more is refused, and so is a cut, at offsets of three, four and five digits.
+#[test]
+fn most_contacts() {
+    let mut log = repeats(8000);
+    for (lent, room) in [(6144, 60538), (400, 1400)] {
+        assert_eq!(listed(&log, lent, room), "badges 4 ticks 3 groups 1\norder 1 ticks 0 to 1 badges 0 1 2 3\n");
+    }
+    log.resize(48100, 0);
+    for (len, text) in [(48100, "7 at 48010"), (48011, "7 at 48010"), (48009, "1 at 48004"), (10000, "1 at 10000"), (9999, "1 at 9994")] {
+        assert_eq!(text_of(&log[..len]), format!("refused {text}\n"));
+    }
+    for (len, text) in [(1001, "1 at 1000"), (999, "1 at 994"), (100, "1 at 100")] {
+        assert_eq!(text_of(&log[..len]), format!("refused {text}\n"));
+    }
+}
+
+/// Number 8,001 is refused as soon as its mark is there. A bad one before it is refused first.
+#[test]
+fn one_contact_more() {
+    let mut log = repeats(8001);
+    log.resize(48100, 0);
+    for (len, text) in [(48100, "5 at 48004"), (48016, "5 at 48004"), (48011, "5 at 48004"), (48006, "5 at 48004"), (48005, "1 at 48004")] {
+        assert_eq!(text_of(&log[..len]), format!("refused {text}\n"));
+    }
+    put_contact(&mut log, 7999, [1, 1, 0, 0]);
+    assert_eq!(text_of(&log), "refused 4 at 47998\n");
+}

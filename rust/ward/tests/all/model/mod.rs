@@ -1,0 +1,23 @@
+//! A second implementation, written plainly from document 01 alone. It shares nothing with the engine, and is slow.
+
+mod days;
+mod graphs;
+mod listing;
+mod logs;
+mod records;
+mod spans;
+
+pub use days::{Day, check};
+pub use graphs::{Graph, full};
+pub use listing::{group_lines, piece, refusal_lines};
+pub use logs::{judge, log_bytes};
+pub use records::{Record, plan_bytes, report_bytes};
+pub use spans::Cores;
+
+/// A refusal's number and offset.
+pub type Refusal = (u8, usize);
+
+/// An answer in so many bytes, of which so many are lent: 9 where it does not fit.
+pub fn delivered(bytes: Vec<u8>, room: usize) -> Result<Vec<u8>, Refusal> {
+    if room < bytes.len() { Err((9, 0)) } else { Ok(bytes) }
+}

@@ -1,0 +1,95 @@
+//! The cores of every span of a day: core numbers, groups and plans.
+
+use super::graphs::full;
+use super::{Day, Graph, Record};
+
+/// The cores of every span of a day.
+pub struct Cores {
+    n: usize,
+    ticks: usize,
+    /// For each first and last tick the cores of order 1, 2 and so on, as far as there are any.
+    of_span: Vec<Vec<u64>>,
+}
+
+impl Cores {
+    pub fn of(day: &Day) -> Cores {
+        let (n, ticks) = (day.n, day.ticks);
+        // how many ticks the pair stays in contact, from a tick on, without a break
+        let mut stay = vec![vec![vec![0; n]; n]; ticks + 1];
+        for t in (0..ticks).rev() {
+            for u in 0..n {
+                for v in 0..n {
+                    stay[t][u][v] = if day.met(t, u, v) { 1 + stay[t + 1][u][v] } else { 0 };
+                }
+            }
+        }
+        let mut of_span = vec![Vec::new(); ticks * ticks];
+        for first in 0..ticks {
+            for last in first..ticks {
+                of_span[first * ticks + last] = Graph::new(n, |u, v| stay[first][u][v] > last - first).cores(full(n));
+            }
+        }
+        Cores { n, ticks, of_span }
+    }
+
+    fn on(&self, first: usize, last: usize) -> &[u64] {
+        &self.of_span[first * self.ticks + last]
+    }
+
+    /// The largest order whose core contains the query, with that core; 0 and all n badges if there is none.
+    pub fn highest(&self, query: u64, first: usize, last: usize) -> (usize, u64) {
+        let mut orders = self.on(first, last).iter().enumerate().filter(|core| query & !core.1 == 0);
+        orders.next_back().map_or((0, full(self.n)), |(place, core)| (place + 1, *core))
+    }
+
+    /// The maximal cores, by first tick and then last tick.
+    pub fn groups(&self) -> Vec<Record> {
+        let mut all: Vec<Record> = Vec::new();
+        for first in 0..self.ticks {
+            for last in first..self.ticks {
+                // a core of a smaller order on the same span is not maximal
+                all.extend(self.on(first, last).iter().enumerate().next_back().map(|(place, core)| (place + 1, first, last, *core)));
+            }
+        }
+        let larger = |a: &Record, b: &Record| a != b && a.0 >= b.0 && a.1 <= b.1 && a.2 >= b.2;
+        all.iter().copied().filter(|b| !all.iter().any(|a| larger(a, b))).collect()
+    }
+
+    /// The parts that end with these ticks, around a query: score and members of each.
+    pub fn parts(&self, query: u64, ends: &[usize]) -> Vec<Record> {
+        let mut first = 0;
+        let mut parts = Vec::new();
+        for &last in ends {
+            assert!(first <= last && last < self.ticks, "a part of at least one tick");
+            let (score, members) = self.highest(query, first, last);
+            parts.push((score, first, last, members));
+            first = last + 1;
+        }
+        assert_eq!(first, self.ticks, "all ticks are cut");
+        parts
+    }
+
+    /// The greatest sum of scores around a query over the ways to cut all ticks into h runs.
+    pub fn greatest_sum(&self, query: u64, h: usize) -> usize {
+        // best[t]: the greatest sum of the ticks before t, in so many runs as were added; none where they cannot be cut so
+        let mut best: Vec<Option<usize>> = vec![None; self.ticks + 1];
+        best[0] = Some(0);
+        let scores: Vec<Vec<usize>> = (0..self.ticks).map(|last| (0..=last).map(|first| self.highest(query, first, last).0).collect()).collect();
+        for _ in 0..h {
+            let mut next = vec![None; self.ticks + 1];
+            for (end, sum) in next.iter_mut().enumerate().skip(1) {
+                *sum = (0..end).filter_map(|start| Some(best[start]? + scores[end - 1][start])).max();
+            }
+            best = next;
+        }
+        best[self.ticks].expect("there are no more parts than ticks")
+    }
+
+    /// The same by trying every cutting: bit t of a number says whether a run ends with tick t. For days of few ticks.
+    pub fn greatest_sum_of_all(&self, query: u64, h: usize) -> usize {
+        let cuttings = (0..1u32 << (self.ticks - 1)).filter(|cuts| cuts.count_ones() as usize == h - 1);
+        let ends = |cuts: u32| -> Vec<usize> { (0..self.ticks).filter(|&t| t + 1 == self.ticks || cuts >> t & 1 == 1).collect() };
+        let sum = |cuts: u32| self.parts(query, &ends(cuts)).iter().map(|part| part.0).sum();
+        cuttings.map(sum).max().expect("there are no more parts than ticks")
+    }
+}

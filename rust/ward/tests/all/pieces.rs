@@ -1,0 +1,78 @@
+//! The listing in pieces: buffers of many sizes, and calls from any place, also past the end.
+
+use crate::model;
+use crate::support::d1::TIDY;
+use crate::support::days::{away_once, day_by, groups_with_away_once, log_of};
+use crate::support::lent::Lent;
+use crate::support::listings::{Listing, walk};
+use crate::support::probes;
+use crate::support::random::Random;
+
+/// D1's three lines of 92 bytes, a first line alone, and a refusal: from each of eight places, in buffers of every length up to 100.
+#[test]
+fn small_texts() {
+    for log in [&TIDY[..], b"BH\x04\x03ED\x00\x00\x00\x00", b"BH\x04\x03CT\x00\x00\x00\x00"] {
+        let listing = Listing::of_log(log, 20, 60);
+        for from in 0..8 {
+            for size in 0..=100 {
+                listing.compare(log, 20, 60, from, size);
+            }
+        }
+    }
+}
+
+/// A report that prepare left, in more bytes than it has, and the lines that it shows.
+struct Prepared {
+    size: usize,
+    report: Vec<u8>,
+    lines: Vec<String>,
+}
+
+impl Prepared {
+    fn of(log: &[u8], listing: Listing) -> Prepared {
+        let (mut words, mut report) = (vec![0; ward::WORDS], vec![0; ward::REPORT_BYTES]);
+        let (prepared, _, _) = probes::listing(log, &mut words, &mut report, 0, &mut []);
+        assert_eq!(prepared, listing.prepared);
+        Prepared { size: prepared.expect("a report"), report, lines: listing.lines }
+    }
+
+    /// Compares the piece from a place on in a buffer of so many bytes. Gives the place of the next line.
+    fn compare(&self, from: usize, size: usize) -> usize {
+        let (mut report, mut out) = (Lent::holding(&self.report), Lent::room(size));
+        let piece = probes::lines(self.size, report.slice(), from, out.slice());
+        let (next, text) = model::piece(&self.lines, from, size);
+        assert_eq!(piece, (Ok(self.size), next, text.len()));
+        out.holds(text.as_bytes());
+        report.is_unchanged();
+        next
+    }
+
+    /// The whole text in pieces of many sizes; pieces from random places, at most a few past the end; and calls from the end and past it, which give 0 bytes
+    /// and the same place.
+    fn comes_in_pieces(&self) {
+        // the first line of 2,078 groups has 31 bytes, and the longest line of any day 213
+        for size in [0, 1, 30, 31, 32, 212, 213, 214, 319, 320, 321, 999, 1000, 1001, 20000, 65536] {
+            walk(self.lines.len(), size, |from| self.compare(from, size));
+        }
+        let mut random = Random(61);
+        for _ in 0..500 {
+            self.compare(random.below(self.lines.len() + 5), random.below(1001));
+        }
+        let end = self.lines.len();
+        for (from, size) in [(end, 320), (end + 1, 320), (4657, 65536), (usize::MAX - 1, 1000), (usize::MAX, 0)] {
+            assert_eq!(self.compare(from, size), from);
+        }
+    }
+}
+
+#[test]
+fn one_group_of_64() {
+    let day = day_by(64, 96, |_, _, _| true);
+    Prepared::of(&log_of(&day), Listing::of_day(&day, &[(63, 0, 95, u64::MAX)])).comes_in_pieces();
+}
+
+#[test]
+fn many_groups() {
+    let day = away_once();
+    Prepared::of(&log_of(&day), Listing::of_day(&day, &groups_with_away_once())).comes_in_pieces();
+}

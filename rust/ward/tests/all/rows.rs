@@ -1,0 +1,94 @@
+//! The cores of any rows: not symmetric, and a badge may be in its own row; among the badges of any base set.
+
+use crate::model::Graph;
+use crate::numbers::Shape;
+use crate::support::probes::{core_numbers, highest_core, peel};
+use crate::support::random::Random;
+
+/// The rows of a set's members, and an empty row for every other badge.
+fn kept(rows: &[u64; 64], members: u64) -> [u64; 64] {
+    std::array::from_fn(|u| if members >> u & 1 == 1 { rows[u] } else { 0 })
+}
+
+fn compare_peel(rows: &[u64; 64], base: u64, order: usize) -> u64 {
+    let graph = Graph::of_rows(rows);
+    let members = graph.core(base, order);
+    assert_eq!(peel(rows, base, order), (kept(rows, members), members, graph.least_degree(members).unwrap_or(64)));
+    members
+}
+
+/// The core of order 2 of three badges with a tail, which is the three. Where the tail has two badges or more, a single pass drops its end alone.
+#[test]
+fn three_badges_with_a_tail() {
+    for badges in 3..=64 {
+        let shape = Shape { badges, clique: 3, ring: false };
+        let joined = |u: usize, v: usize| u < badges && v < badges && u != v && shape.joined(u.min(v), u.max(v));
+        let rows = std::array::from_fn(|u| (0..64).filter(|&v| joined(u, v)).map(|v| 1 << v).sum());
+        assert_eq!(compare_peel(&rows, u64::MAX, 2), 0b111);
+    }
+}
+
+/// A set in which each badge is by a chance of so many in 32.
+fn random_set(random: &mut Random, chance: usize) -> u64 {
+    (0..64).filter(|_| random.below(32) < chance).map(|v| 1 << v).sum()
+}
+
+fn random_rows(random: &mut Random) -> [u64; 64] {
+    let chance = 1 + random.below(32);
+    std::array::from_fn(|_| random_set(random, chance))
+}
+
+/// None, few, many or all of the badges.
+fn random_base(random: &mut Random) -> u64 {
+    let chance = random.below(40);
+    random_set(random, chance)
+}
+
+/// The empty query, some of all badges, or some of the base.
+fn random_query(random: &mut Random, base: u64) -> u64 {
+    match random.below(4) {
+        0 => 0,
+        1 => random_set(random, 1),
+        _ => random_set(random, 2) & base,
+    }
+}
+
+/// At each order from 0 to 66, and at the largest number.
+#[test]
+fn peeling() {
+    let mut random = Random(41);
+    for order in (0..=66).chain([usize::MAX]) {
+        for _ in 0..50 {
+            let (rows, base) = (random_rows(&mut random), random_base(&mut random));
+            compare_peel(&rows, base, order);
+        }
+    }
+}
+
+#[test]
+fn numbers() {
+    let mut random = Random(42);
+    for _ in 0..500 {
+        let (rows, base) = (random_rows(&mut random), random_base(&mut random));
+        assert_eq!(core_numbers(&rows, base)[..], Graph::of_rows(&rows).core_numbers(base));
+    }
+}
+
+/// The core of the largest order above one order and up to another that contains the query; the lower order and no badge where there is none.
+fn highest(graph: &Graph, base: u64, query: u64, above: u8, most: u8) -> (u8, u64) {
+    let orders = (above..most).map(|below| below + 1).map(|order| (order, graph.core(base, order as usize)));
+    orders.take_while(|(_, core)| *core != 0 && query & !core == 0).last().unwrap_or((above, 0))
+}
+
+#[test]
+fn highest_cores() {
+    let mut random = Random(43);
+    for _ in 0..2000 {
+        let (rows, base) = (random_rows(&mut random), random_base(&mut random));
+        let query = random_query(&mut random, base);
+        let bound = 1 + random.below(80);
+        let (above, most) = (random.below(bound) as u8, random.below(80) as u8);
+        let (order, members) = highest(&Graph::of_rows(&rows), base, query, above, most);
+        assert_eq!(highest_core(&rows, base, query, above, most), (order, members, kept(&rows, members)));
+    }
+}

@@ -1,0 +1,13 @@
+//! What the tests share: lent memory, the calls against the model, logs and days.
+
+pub mod calls;
+pub mod d1;
+pub mod days;
+pub mod handed;
+pub mod lent;
+pub mod listings;
+pub mod logs;
+pub mod probes;
+pub mod random;
+pub mod refused_logs;
+pub mod seen;

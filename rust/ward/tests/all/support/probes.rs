@@ -1,0 +1,80 @@
+//! The calls that C does not have: the listing in pieces, and the cores of any rows (crates/probes).
+
+use crate::model::Refusal;
+
+#[link(name = "probes", kind = "static")]
+extern "C" {
+    fn probe_listing(
+        log: *const u8,
+        log_len: usize,
+        words: *mut u64,
+        words_len: usize,
+        report: *mut u8,
+        report_len: usize,
+        from: usize,
+        out: *mut u8,
+        out_len: usize,
+        answer: *mut [u64; 5],
+    );
+    fn probe_lines(size: usize, report: *const u8, report_len: usize, from: usize, out: *mut u8, out_len: usize, answer: *mut [u64; 5]);
+    fn probe_peel(rows: *const [u64; 64], base: u64, order: usize, out: *mut [u64; 64], answer: *mut [u64; 2]);
+    fn probe_core_numbers(rows: *const [u64; 64], base: u64, out: *mut [u8; 64]);
+    fn probe_highest_core(rows: *const [u64; 64], base: u64, query: u64, above: u8, most: u8, out: *mut [u64; 64], answer: *mut [u64; 2]);
+}
+
+/// What prepare answered, the number of the report's bytes or its refusal; the place of the next line; and the number of the piece's bytes.
+pub type Piece = (Result<usize, Refusal>, usize, usize);
+
+fn piece([number, offset, size, next, bytes]: [u64; 5]) -> Piece {
+    let prepared = if number == 0 { Ok(size as usize) } else { Err((number as u8, offset as usize)) };
+    assert!(number == 0 && offset == 0 || number <= 16 && size == 0, "an answer of prepare");
+    (prepared, next as usize, bytes as usize)
+}
+
+/// Prepares the listing of a log, and puts its lines from a place on into a buffer.
+pub fn listing(log: &[u8], words: &mut [u64], report: &mut [u8], from: usize, out: &mut [u8]) -> Piece {
+    let mut answer = [u64::MAX; 5];
+    let (words_len, report_len, out_len) = (words.len(), report.len(), out.len());
+    unsafe {
+        probe_listing(
+            log.as_ptr(),
+            log.len(),
+            words.as_mut_ptr(),
+            words_len,
+            report.as_mut_ptr(),
+            report_len,
+            from,
+            out.as_mut_ptr(),
+            out_len,
+            &mut answer,
+        )
+    };
+    piece(answer)
+}
+
+/// Puts the lines that a report of so many bytes shows, from a place on, into a buffer.
+pub fn lines(size: usize, report: &[u8], from: usize, out: &mut [u8]) -> Piece {
+    let mut answer = [u64::MAX; 5];
+    unsafe { probe_lines(size, report.as_ptr(), report.len(), from, out.as_mut_ptr(), out.len(), &mut answer) };
+    piece(answer)
+}
+
+/// The rows of the core of an order among the badges of a base set, its members, and their least degree; 64 where there is none.
+pub fn peel(rows: &[u64; 64], base: u64, order: usize) -> ([u64; 64], u64, usize) {
+    let (mut out, mut answer) = ([u64::MAX; 64], [u64::MAX; 2]);
+    unsafe { probe_peel(rows, base, order, &mut out, &mut answer) };
+    (out, answer[0], answer[1] as usize)
+}
+
+pub fn core_numbers(rows: &[u64; 64], base: u64) -> [u8; 64] {
+    let mut out = [u8::MAX; 64];
+    unsafe { probe_core_numbers(rows, base, &mut out) };
+    out
+}
+
+/// The core of the largest order above one order and up to another that contains the query: its order, its members and their rows.
+pub fn highest_core(rows: &[u64; 64], base: u64, query: u64, above: u8, most: u8) -> (u8, u64, [u64; 64]) {
+    let (mut out, mut answer) = ([u64::MAX; 64], [u64::MAX; 2]);
+    unsafe { probe_highest_core(rows, base, query, above, most, &mut out, &mut answer) };
+    (answer[0] as u8, answer[1], out)
+}

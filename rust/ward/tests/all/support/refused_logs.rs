@@ -1,0 +1,121 @@
+//! Logs that are refused: for each number of document 01 that a log can bring about by itself, but for 5, which takes a long one. A case has the
+//! number and the offset, both written by hand, and the log.
+
+use crate::model::Refusal;
+
+pub type Case = (Refusal, &'static [u8]);
+
+/// 1: the bytes end inside the header, or before it; then inside a later record, or where one must start.
+const CUT_SHORT: &[Case] = &[
+    ((1, 0), b""),
+    ((1, 0), b"B"),
+    ((1, 0), b"C"),
+    ((1, 0), b"\xff"),
+    ((1, 0), b"BH"),
+    ((1, 0), b"BH\x04"),
+    ((1, 0), b"BH\x00"),
+    ((1, 4), b"BH\x04\x03"),
+    ((1, 4), b"BH\x04\x03C"),
+    ((1, 4), b"BH\x04\x03E"),
+    ((1, 4), b"BH\x04\x03\x00"),
+    ((1, 4), b"BH\x04\x03CT"),
+    ((1, 4), b"BH\x04\x03CT\x00"),
+    ((1, 4), b"BH\x04\x03CT\x00\x01"),
+    ((1, 4), b"BH\x04\x03CT\x00\x01\x00"),
+    ((1, 4), b"BH\x04\x03CT\x09\x09\x09"),
+    ((1, 4), b"BH\x04\x03ED"),
+    ((1, 4), b"BH\x04\x03ED\x00"),
+    ((1, 4), b"BH\x04\x03ED\x00\x00"),
+    ((1, 4), b"BH\x04\x03ED\x07\x00\x00"),
+    ((1, 10), b"BH\x04\x03CT\x00\x01\x00\x01"),
+    ((1, 10), b"BH\x04\x03CT\x00\x01\x00\x01X"),
+    ((1, 10), b"BH\x04\x03CT\x00\x01\x00\x01E"),
+    ((1, 10), b"BH\x04\x03CT\x00\x01\x00\x01ED\x01\x00\x00"),
+];
+
+/// 2: the first mark is not BH, whatever follows it; then a later mark is neither CT nor ED.
+const WRONG_MARK: &[Case] = &[
+    ((2, 0), b"CT"),
+    ((2, 0), b"CT\x00\x01\x00\x01ED\x01\x00\x00\x00"),
+    ((2, 0), b"ED\x00\x00\x00\x00"),
+    ((2, 0), b"ED"),
+    ((2, 0), b"HB\x04\x03ED\x00\x00\x00\x00"),
+    ((2, 0), b"BX\x04\x03ED\x00\x00\x00\x00"),
+    ((2, 0), b"XH\x04\x03ED\x00\x00\x00\x00"),
+    ((2, 0), b"bh\x04\x03ED\x00\x00\x00\x00"),
+    ((2, 0), b"RH\x04\x03ED\x00\x00\x00\x00"),
+    ((2, 0), b"\x00\x00"),
+    ((2, 4), b"BH\x04\x03BH"),
+    ((2, 4), b"BH\x04\x03BH\x04\x03"),
+    ((2, 4), b"BH\x04\x03BH\x04\x03ED\x00\x00\x00\x00"),
+    ((2, 4), b"BH\x04\x03BH\x00\x00ED\x00\x00\x00\x00"),
+    ((2, 4), b"BH\x04\x03XX"),
+    ((2, 4), b"BH\x04\x03TC\x00\x01\x00\x01ED\x01\x00\x00\x00"),
+    ((2, 4), b"BH\x04\x03CD\x00\x01\x00\x01ED\x01\x00\x00\x00"),
+    ((2, 4), b"BH\x04\x03ET\x00\x00\x00\x00"),
+    ((2, 4), b"BH\x04\x03GR\x00\x00\x00\x00"),
+    ((2, 10), b"BH\x04\x03CT\x00\x01\x00\x01BH\x04\x03"),
+    ((2, 10), b"BH\x04\x03CT\x00\x01\x00\x01ct\x00\x01\x00\x01ED\x02\x00\x00\x00"),
+];
+
+/// 3: n or T of the header is outside its limits.
+const WRONG_SIZE: &[Case] = &[
+    ((3, 0), b"BH\x00\x03ED\x00\x00\x00\x00"),
+    ((3, 0), b"BH\x41\x03ED\x00\x00\x00\x00"),
+    ((3, 0), b"BH\xff\x03ED\x00\x00\x00\x00"),
+    ((3, 0), b"BH\x04\x00ED\x00\x00\x00\x00"),
+    ((3, 0), b"BH\x04\x61ED\x00\x00\x00\x00"),
+    ((3, 0), b"BH\x04\xffED\x00\x00\x00\x00"),
+    ((3, 0), b"BH\x00\x00"),
+    ((3, 0), b"BH\x41\x61XX"),
+];
+
+/// 4: equal badges, or a badge of n or more; then the first tick after the last, or the last of T or more.
+const WRONG_CONTACT: &[Case] = &[
+    ((4, 4), b"BH\x04\x03CT\x00\x00\x00\x01ED\x01\x00\x00\x00"),
+    ((4, 4), b"BH\x04\x03CT\x03\x03\x00\x01ED\x01\x00\x00\x00"),
+    ((4, 4), b"BH\x04\x03CT\x04\x01\x00\x01ED\x01\x00\x00\x00"),
+    ((4, 4), b"BH\x04\x03CT\x01\x04\x00\x01ED\x01\x00\x00\x00"),
+    ((4, 4), b"BH\x04\x03CT\xff\x01\x00\x01ED\x01\x00\x00\x00"),
+    ((4, 4), b"BH\x04\x03CT\x01\xff\x00\x01ED\x01\x00\x00\x00"),
+    ((4, 4), b"BH\x01\x01CT\x00\x00\x00\x00ED\x01\x00\x00\x00"),
+    ((4, 4), b"BH\x01\x01CT\x00\x01\x00\x00ED\x01\x00\x00\x00"),
+    ((4, 10), b"BH\x04\x03CT\x00\x01\x00\x01CT\x02\x02\x00\x01ED\x02\x00\x00\x00"),
+    ((4, 4), b"BH\x04\x03CT\x00\x00\x00\x01"),
+    ((4, 4), b"BH\x04\x03CT\x00\x01\x01\x00ED\x01\x00\x00\x00"),
+    ((4, 4), b"BH\x04\x03CT\x00\x01\xff\x00ED\x01\x00\x00\x00"),
+    ((4, 4), b"BH\x04\x03CT\x00\x01\x00\x03ED\x01\x00\x00\x00"),
+    ((4, 4), b"BH\x04\x03CT\x00\x01\x03\x03ED\x01\x00\x00\x00"),
+    ((4, 4), b"BH\x04\x03CT\x00\x01\x00\xffED\x01\x00\x00\x00"),
+    ((4, 10), b"BH\x04\x03CT\x00\x01\x00\x01CT\x00\x01\x02\x01ED\x02\x00\x00\x00"),
+    ((4, 10), b"BH\x04\x03CT\x00\x01\x00\x02CT\x02\x03\x00\x03ED\x02\x00\x00\x00"),
+];
+
+/// 6: the end's count differs, in any of its four bytes.
+const WRONG_COUNT: &[Case] = &[
+    ((6, 4), b"BH\x04\x03ED\x01\x00\x00\x00"),
+    ((6, 4), b"BH\x04\x03ED\x00\x01\x00\x00"),
+    ((6, 4), b"BH\x04\x03ED\x00\x00\x01\x00"),
+    ((6, 4), b"BH\x04\x03ED\x00\x00\x00\x01"),
+    ((6, 4), b"BH\x04\x03ED\xff\xff\xff\xff"),
+    ((6, 10), b"BH\x04\x03CT\x00\x01\x00\x01ED\x00\x00\x00\x00"),
+    ((6, 10), b"BH\x04\x03CT\x00\x01\x00\x01ED\x02\x00\x00\x00"),
+    ((6, 10), b"BH\x04\x03CT\x00\x01\x00\x01ED\x01\x01\x00\x00"),
+    ((6, 10), b"BH\x04\x03CT\x00\x01\x00\x01ED\x00\x00\x00\x01"),
+    ((6, 4), b"BH\x04\x03ED\x01\x00\x00\x00X"),
+];
+
+/// 7: bytes follow the end, whatever they are.
+const TRAILING_BYTES: &[Case] = &[
+    ((7, 10), b"BH\x04\x03ED\x00\x00\x00\x00\x00"),
+    ((7, 10), b"BH\x04\x03ED\x00\x00\x00\x00XX"),
+    ((7, 10), b"BH\x04\x03ED\x00\x00\x00\x00ED\x00\x00\x00\x00"),
+    ((7, 10), b"BH\x04\x03ED\x00\x00\x00\x00BH\x04\x03ED\x00\x00\x00\x00"),
+    ((7, 16), b"BH\x04\x03CT\x00\x01\x00\x01ED\x01\x00\x00\x00\n"),
+    ((7, 16), b"BH\x04\x03CT\x00\x01\x00\x01ED\x01\x00\x00\x00\x00"),
+];
+
+/// All of them.
+pub fn all() -> impl Iterator<Item = &'static Case> {
+    [CUT_SHORT, WRONG_MARK, WRONG_SIZE, WRONG_CONTACT, WRONG_COUNT, TRAILING_BYTES].into_iter().flatten()
+}

@@ -1,0 +1,119 @@
+//! Tidy and write: logs and days whose answers are written by hand.
+
+use crate::model;
+use crate::support::calls::{read, tidy};
+use crate::support::d1::{MESSY, TIDY, WORDS, d1};
+use crate::support::days::{runs_by_pair, runs_by_tick, words_of_runs};
+use crate::support::handed::Handed;
+use crate::support::logs::{all_in_contact, long, random_log, with_one_byte_changed};
+use crate::support::random::Random;
+use crate::support::refused_logs;
+use crate::support::seen::all_seen;
+
+/// A tidy log tidies to itself, and reads as a day with as many contacts as it has records.
+pub fn settles(tidied: &[u8]) {
+    let words = tidied[2] as usize * tidied[3] as usize;
+    assert_eq!(tidy(tidied, words, tidied.len()), Ok(tidied.to_vec()));
+    assert_eq!(read(tidied, words).map(|day| 10 + 6 * day.2), Ok(tidied.len()));
+}
+
+/// Both logs of D1, and its words with others after them, give the same 34 bytes, in buffers of every length.
+#[test]
+fn d1_into_every_buffer() {
+    for room in (0..=60).chain([48100]) {
+        let expected = if room < 34 { Err((9, 0)) } else { Ok(TIDY.to_vec()) };
+        for (log, lent) in [(&TIDY[..], 12), (TIDY, 14), (TIDY, 6200), (MESSY, 12), (MESSY, 14), (MESSY, 6200)] {
+            assert_eq!(tidy(log, lent, room), expected);
+        }
+        for lent in [12, 14] {
+            assert_eq!(d1(lent).write(room), expected);
+        }
+    }
+    settles(TIDY);
+}
+
+#[test]
+fn d1_with_one_byte_changed() {
+    for changed in with_one_byte_changed(MESSY) {
+        if let Ok(tidied) = tidy(&changed, 400, 60) {
+            settles(&tidied);
+        }
+    }
+}
+
+/// The log of a full day, with the larger badges first; logs of 8,000 contacts, random ones, and the same few from either side.
+#[test]
+fn most_contacts() {
+    assert_eq!(tidy(&all_in_contact(), 6144, 12106).map(|log| log.len()), Ok(12106));
+    let tidied = tidy(&random_log(&mut Random(12), 64, 10, 8000), 640, 48100);
+    settles(&tidied.expect("a tidy log"));
+    for (n, ticks, len) in [(2, 1, 16), (4, 3, 34)] {
+        let log = long(n, ticks, 8000);
+        assert_eq!(tidy(&log, 6200, len).map(|log| log.len()), Ok(len));
+        assert_eq!(tidy(&log, 6200, len - 1), Err((9, 0)));
+    }
+    assert_eq!(tidy(&long(4, 3, 8001), 40, 60), Err((5, 48004)));
+}
+
+/// A day of so many runs: 8,000 fill a log of 48,010 bytes; more are refused by 15, before any buffer is too short.
+fn compare_runs(words: &[u64], count: usize) {
+    let day = Handed::new(words, 64, 96);
+    for room in [48100, 48010, 48009, 48004, 48003, 0] {
+        let len = if count > 8000 { Err((15, 0)) } else { Ok(10 + 6 * count) };
+        assert_eq!(day.write(room).map(|log| log.len()), len.and_then(|len| if room < len { Err((9, 0)) } else { Ok(len) }));
+    }
+    if let Ok(log) = day.write(48010) {
+        settles(&log);
+    }
+}
+
+#[test]
+fn most_runs() {
+    for count in [7999, 8000, 8001, 20000] {
+        compare_runs(&words_of_runs(runs_by_pair().take(count)), count);
+        compare_runs(&words_of_runs(runs_by_tick().take(count)), count);
+    }
+    compare_runs(&words_of_runs(runs_by_tick()), 2016 * 48);
+    all_seen("write", &[9, 15]);
+}
+
+/// All refusals of tidy but 5, above, and 16, which no log can bring about, as it has no fewer contacts than runs: 1 to 7, 8, 9, in this order.
+#[test]
+fn tidy_refusals() {
+    for (refusal, log) in refused_logs::all() {
+        for (lent, room) in [(400, 60), (0, 0)] {
+            assert_eq!(tidy(log, lent, room), Err(*refusal), "{log:?}");
+        }
+    }
+    for (lent, room) in [(11, 60), (11, 33), (0, 0)] {
+        assert_eq!(tidy(TIDY, lent, room), Err((8, 0)));
+    }
+    for (lent, room) in [(12, 33), (20, 0)] {
+        assert_eq!(tidy(MESSY, lent, room), Err((9, 0)));
+    }
+    let empty = b"BH\x40\x60ED\x00\x00\x00\x00";
+    assert_eq!(tidy(empty, 6143, 9), Err((8, 0)));
+    assert_eq!(tidy(empty, 6144, 9), Err((9, 0)));
+    assert_eq!(tidy(empty, 6144, 10), Ok(empty.to_vec()));
+    assert_eq!(tidy(b"BH\x04\x03CT\x00\x01\x00\x01ED\x02\x00\x00\x00", 11, 0), Err((6, 10)));
+    assert_eq!(tidy(b"BH\x04\x03ED\x00\x00\x00\x00X", 0, 0), Err((7, 10)));
+    all_seen("tidy", &[1, 2, 3, 4, 6, 7, 8, 9]);
+}
+
+/// 10, 8, 11, 15 and 9, each with all later ones that can go with it.
+#[test]
+fn write_refusals() {
+    let mut words = words_of_runs(runs_by_pair().take(8001));
+    assert_eq!(Handed::new(&words, 64, 96).write(0), Err((15, 0)));
+    words[6143] = 1;
+    let huge = usize::MAX;
+    let broken = [(6144, 64, 96, 0, 11), (6144, 64, 96, 48100, 11), (6143, 64, 96, 0, 8), (6143, 64, 97, 0, 10), (6144, 65, 96, 0, 10)];
+    for (lent, n, ticks, room, number) in broken.into_iter().chain([(6144, 0, 96, 0, 10), (6144, 64, 0, 60, 10), (0, huge, huge, 60, 10)]) {
+        assert_eq!(Handed::new(&words[..lent], n, ticks).write(room), Err((number, 0)));
+    }
+    for (lent, n, ticks, room, number) in [(0, 4, 3, 0, 8), (11, 4, 3, 60, 8), (14, 3, 4, 0, 11), (12, 4, 3, 33, 9)] {
+        assert_eq!(Handed::new(&WORDS[..lent], n, ticks).write(room), Err((number, 0)));
+    }
+    assert_eq!(Handed::new(&[0], 1, 1).write(9), Err((9, 0)));
+    assert_eq!(Handed::new(&[0], 1, 1).write(10), Ok(model::log_bytes(1, 1, &[])));
+}
