@@ -11,7 +11,7 @@ use lib.Arith.{digits-lt}
 use lib.ListN.{length, getD, take, drop, replicate, length-append, List·getD-append, length-replicate, getD-replicate}
 use lib.Seq.{getD-append-add, getD-take, getD-drop, ext-getD}
 use Rattle.sets.specs.Sets.{In, setOf}
-use Rattle.sets.proofs.Bools.{clash, same-test}
+use Rattle.sets.proofs.Bools.{clash}
 use Rattle.sets.proofs.Tables.{tabulate-length, tabulate-at}
 use Rattle.sets.proofs.Sets.{not-in-none, set-lt, in-set, of-set, of-set-lt, ext}
 use Rattle.days.specs.Days.{neighbours, tickWords, dayWords, IsDay}
@@ -95,12 +95,6 @@ pub day-same : (n T : ℕ) (r q : ℕ → ℕ → ℕ → Bool) → ((t u v : �
 day-same n T r q e = day-by n T _ q (day-length n T r)
     (λ t u v h k i. let x = of-day n T r t u v h k i in (x .0, sym (e t u v h k (x .0)) ∙ x .1))
     (λ t u v h k l f. in-day n T r t u v h k l (e t u v h k l ∙ f))
-
-pub same-of-day : (n T : ℕ) (r q : ℕ → ℕ → ℕ → Bool) → dayWords n T r ≡ dayWords n T q → (t u v : ℕ) → t < T → u < n → v < n → r t u v ≡ q t u v
-same-of-day n T r q e t u v h k l = same-test _ _ (go r q e) (go q r (sym e))
-  where
-    go : (r q : ℕ → ℕ → ℕ → Bool) → dayWords n T r ≡ dayWords n T q → r t u v ≡ true → q t u v ≡ true
-    go r q e f = let i = in-day n T r t u v h k l f in of-day n T q t u v h k (rw e at i) .1
 
 -- the words of a day without contacts are zero
 pub day-none : (n T : ℕ) → dayWords n T (λ t u v. false) ≡ replicate (T * n) 0

@@ -269,10 +269,6 @@ module _ (n : ℕ) (p : ℕ → Bool) where
       back u i (inl j) = j
       back u i (inr f) = absurd (clash (of-set (n + 1) p u i) (rw f e))
 
--- an intersection of subsets is a subset of the intersection
-pub intersection-mono : {a b c d : ℕ} → Sub a c → Sub b d → Sub (intersection a b) (intersection c d)
-intersection-mono {a} {b} {c} {d} h k = record { at = λ u i. in-intersection c d u (h .at u (of-intersection-left a b u i)) (k .at u (of-intersection-right a b u i)) }
-
 -- the test for a subset passes exactly when every member is a member of the other set
 pub is-sub-in : {s t : ℕ} → Sub s t → isSub s t ≡ true
 unfolding isSub intersection
@@ -298,9 +294,6 @@ in-full n u h = in-set n (λ u. true) u h refl
 
 pub of-full : (n u : ℕ) → In (full n) u → u < n
 of-full n u i = in-lt n (full n) u (full-lt n) i
-
-pub sub-full : (n s : ℕ) → s < 2 ^ n → Sub s (full n)
-sub-full n s h = record { at = λ u i. in-full n u (in-lt n s u h i) }
 
 -- inserting a badge below the capacity is a union with that badge alone; inserting any other changes nothing
 pub insert-in : (s u : ℕ) → u < capacity → insert s u ≡ union s (only u)

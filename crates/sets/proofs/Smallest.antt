@@ -6,7 +6,7 @@ use native.Mathlib.Nat.{le-of-suc-le-suc, not-suc-le-zero, mod-lt, zero-lt-suc, 
 use native.Mathlib.Decide.{ℕ-discrete}
 use native.Mathlib.Omega.{arith}
 use lib.Bits.{bitAnd, and-step, and-self}
-use lib.Count.{under, trailingZeros, trailing-le, trailing-of-zero}
+use lib.Count.{under, trailingZeros, trailing-le}
 use borrow.Author.Tests.{ne-eqb}
 use Rattle.sets.specs.Sets.{bit, In, intersection, difference, only, smallest}
 use Rattle.sets.proofs.Bits.{bit-zero, bit-suc}
@@ -32,12 +32,9 @@ smallest-trailing (suc w) s = go (smallest-trailing w (s / 2)) (s % 2) refl
     go ih (suc zero) e = rw (smallest-yes w s (bit-zero s ∙ e), e)
     go ih (suc (suc b)) e = absurd (omega (arith, mod-lt s (zero-lt-suc 1)))
 
--- it is at most w, and w for the empty set
+-- it is at most w
 pub smallest-le : (w s : ℕ) → smallest w s ≤ w
 smallest-le w s = rw smallest-trailing (trailing-le w s)
-
-pub smallest-none : (w : ℕ) → smallest w 0 ≡ w
-smallest-none w = smallest-trailing w 0 ∙ trailing-of-zero w
 
 -- where it is below w it is a member
 pub smallest-in : (w s : ℕ) → smallest w s < w → In s (smallest w s)
