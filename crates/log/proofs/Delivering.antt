@@ -6,7 +6,7 @@ use Prim.Native.Nat.{ℕ, _+_, _*_, _≤_, _<_}
 use native.Mathlib.Nat.{zero-add}
 use native.Mathlib.Omega.{arith}
 use lib.ListN.{length, take, drop}
-use lib.Seq.{paste, take-length, take-paste}
+use lib.Seq.{paste, take-length, take-paste, length-paste, drop-paste}
 use borrow.Author.Tests.{lt-ltb, le-ltb, le-leb, lt-leb}
 use Rattle.records.specs.Limits.{maxContacts, withinLimits, wordsFor}
 use Rattle.records.specs.Outcomes.{Outcome, refused, success, refuseIf, andThen}
@@ -45,6 +45,13 @@ pub take-place : (at : ℕ) (bytes buffer : List ℕ) → at + length bytes ≤ 
 take-place at bytes buffer h =
     rw (place-fits at bytes buffer h, overwrite-paste at bytes buffer)
     (take-paste buffer at bytes (length bytes) (omega arith) (omega arith) ∙ ap (λ (s : List ℕ). take at buffer ++ s) (take-length bytes))
+
+-- it is as long as before, and what follows them is as it was
+pub length-place : (at : ℕ) (bytes buffer : List ℕ) → at + length bytes ≤ length buffer → length (place at bytes buffer) ≡ length buffer
+length-place at bytes buffer h = rw (place-fits at bytes buffer h, overwrite-paste at bytes buffer) (length-paste buffer at bytes (length bytes) h (omega arith))
+
+pub drop-place : (at : ℕ) (bytes buffer : List ℕ) → at + length bytes ≤ length buffer → drop (at + length bytes) (place at bytes buffer) ≡ drop (at + length bytes) buffer
+drop-place at bytes buffer h = rw (place-fits at bytes buffer h, overwrite-paste at bytes buffer) (drop-paste buffer at bytes (length bytes) (omega arith) (omega arith))
 
 -- more than 8,000 contact records are refused, and no more than that make the tidy log
 module _ (number n T : ℕ) (r : ℕ → ℕ → ℕ → Bool) where

@@ -1,18 +1,18 @@
 -- Laws of bytes that are appended to a line, one part after the other.
 use mathlib.Core.Path.{_≡_, refl, sym, ap, _∙_, subst}
 use mathlib.Core.Bool.{Bool, true, false}
-use mathlib.Core.List.{List, [], _∷_, _++_, append-assoc, append-nil}
+use mathlib.Core.List.{List, [], _++_, append-assoc, append-nil}
 use Prim.Native.Nat.{ℕ, suc, _+_, _-_, _*_, _^_, _≤_, _<_}
 use native.Mathlib.Numerals.{add-one}
 use native.Mathlib.Omega.{arith}
 use lib.ListN.{length, take, drop, length-append, length-drop}
-use lib.Seq.{take-all, length-paste}
+use lib.Seq.{take-all}
 use Rattle.sets.specs.Ascii.{ascii}
 use Rattle.sets.specs.Sets.{has}
 use Rattle.sets.specs.Members.{capacity}
 use Rattle.sets.specs.Tables.{concatBelow, keepIf}
 use Rattle.log.specs.Buffers.{place}
-use Rattle.log.proofs.Delivering.{overwrite-paste, place-fits, take-place}
+use Rattle.log.proofs.Delivering.{take-place, length-place}
 use Rattle.text.specs.Decimal.{decimal}
 use Rattle.text.specs.Listing.{field, memberList}
 use Rattle.text.specs.Making.{lineRoom, digitRoom, Spells, Appends, Makes}
@@ -34,7 +34,7 @@ appends-then {xs} {ys} {i} {j} {k} {x} {y} {z} e f = record {
 pub appends-put : (bytes : List ℕ) {at at′ : ℕ} {line line′ : List ℕ} → at + length bytes ≤ length line → at′ ≡ at + length bytes → line′ ≡ place at bytes line → Appends bytes at at′ line line′
 appends-put bytes {at} {at′} {line} {line′} h e f = record {
   end = e;
-  size = rw (f, place-fits at bytes line h, overwrite-paste at bytes line) (length-paste line at bytes (length bytes) h (omega arith));
+  size = ap length f ∙ length-place at bytes line h;
   front = rw (e, f) (take-place at bytes line h);
 }
 

@@ -7,13 +7,21 @@ use native.Mathlib.Numerals.{add-one}
 use native.Mathlib.Omega.{arith}
 use lib.Dec.{leb}
 use lib.ListN.{length, getD, take, drop, length-append, take-append-drop, drop-of-length-le}
-use lib.Seq.{length-take-le, drop-cons, drop-drop, length-paste, drop-paste}
+use lib.Seq.{length-take-le, drop-cons, drop-drop}
 use borrow.Author.Tests.{le-leb, lt-leb, leb-true, leb-false}
 use Rattle.log.specs.Buffers.{place}
-use Rattle.log.proofs.Delivering.{overwrite-paste, place-fits, take-place}
+use Rattle.log.proofs.Delivering.{take-place, length-place, drop-place}
 use Rattle.text.specs.Listing.{joined}
 use Rattle.text.specs.Pieces.{linesIn, bytesIn, pieceOf}
-use Rattle.text.specs.Making.{lineRoom, Makes, Fills}
+use Rattle.text.specs.Making.{Makes}
+
+-- Lines from one place up to another stand at the start of a buffer, and as many as fit behind them are still to come.
+pub record Fills (ls : List (List ℕ)) (from next at : ℕ) (buffer buffer′ : List ℕ) : Type 0 where
+  pub size : length buffer′ ≡ length buffer
+  pub inside : at ≤ length buffer
+  pub lines : from + linesIn (length buffer) (drop from ls) ≡ next + linesIn (length buffer - at) (drop next ls)
+  pub bytes : bytesIn (length buffer) (drop from ls) ≡ take at buffer′ ++ bytesIn (length buffer - at) (drop next ls)
+  pub rest : drop at buffer′ ≡ drop at buffer
 
 -- a line that fits in front, and one that does not
 module _ (l : List ℕ) (ls : List (List ℕ)) {room : ℕ} where
@@ -48,13 +56,6 @@ bytes-none : (room : ℕ) (ls : List (List ℕ)) → linesIn room ls ≡ 0 → b
 unfolding bytesIn joined
 bytes-none room ls z = rw z
 
--- the front of a buffer that holds a line, and what follows it
-drop-place : (at : ℕ) (bytes buffer : List ℕ) → at + length bytes ≤ length buffer → drop (at + length bytes) (place at bytes buffer) ≡ drop (at + length bytes) buffer
-drop-place at bytes buffer h = rw (place-fits at bytes buffer h, overwrite-paste at bytes buffer) (drop-paste buffer at bytes (length bytes) (omega arith) (omega arith))
-
-length-place : (at : ℕ) (bytes buffer : List ℕ) → at + length bytes ≤ length buffer → length (place at bytes buffer) ≡ length buffer
-length-place at bytes buffer h = rw (place-fits at bytes buffer h, overwrite-paste at bytes buffer) (length-paste buffer at bytes (length bytes) h (omega arith))
-
 -- a line that was made is as long as it says
 pub made-length : {bytes line : List ℕ} {count : ℕ} → Makes bytes count line → length bytes ≡ count
 made-length {bytes} {line} {count} m = ap length (sym (m .front)) ∙ length-take-le count line (omega (arith, m .inside, m .size))
@@ -79,15 +80,12 @@ module _ {ls : List (List ℕ)} {from : ℕ} {buffer : List ℕ} where
         let there : at + length l ≡ at + size = omega arith in
         let front : take (at + size) buffer″ ≡ take at buffer′ ++ l = rw (← there, put) (take-place at l buffer′ here) in
         record {
-          size = put-size l here put ∙ f .size;
+          size = ap length put ∙ length-place at l buffer′ here ∙ f .size;
           inside = omega (arith, f .size, f .inside);
           lines = f .lines ∙ rw (cons, lines-more l rests room, less, add-one) (omega arith);
           bytes = f .bytes ∙ rw (cons, bytes-more l rests room, less, front, add-one) (sym (append-assoc (take at buffer′) l (bytesIn (length buffer - (at + size)) rests)));
           rest = rw (put, ← there, drop-place at l buffer′ here) (sym (drop-drop (length l) at buffer′) ∙ ap (drop (length l)) (f .rest) ∙ drop-drop (length l) at buffer);
         }
-      where
-        put-size : (l : List ℕ) {buffer″ : List ℕ} → at + length l ≤ length buffer′ → buffer″ ≡ place at l buffer′ → length buffer″ ≡ length buffer′
-        put-size l h e = rw e (length-place at l buffer′ h)
 
     -- no line more: the next does not fit, or there is none
     pub full-stop : {line : List ℕ} {size : ℕ} → next < length ls → Makes (getD ls next []) size line → length buffer′ - at < size → linesIn (length buffer - at) (drop next ls) ≡ 0

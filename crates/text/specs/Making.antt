@@ -5,7 +5,6 @@ use Prim.Native.Nat.{ℕ, suc, _+_, _-_, _/_, _≤_, _<_}
 use lib.ListN.{length, take, drop}
 use Rattle.records.specs.Outcomes.{Outcome, refused, success}
 use Rattle.text.specs.Decimal.{decimal}
-use Rattle.text.specs.Pieces.{linesIn, bytesIn}
 
 -- room for any line, and for the digits of any number
 abbrev pub lineRoom : ℕ
@@ -36,11 +35,3 @@ pub record Makes (bytes : List ℕ) (count : ℕ) (line′ : List ℕ) : Type 0 
 abbrev pub lineCount : Outcome ℕ → ℕ
 lineCount (refused number offset) = 1
 lineCount (success size) = suc ((size - 10) / 13)
-
--- Lines from one place up to another stand at the start of a buffer, and as many as fit behind them are still to come.
-pub record Fills (ls : List (List ℕ)) (from next at : ℕ) (buffer buffer′ : List ℕ) : Type 0 where
-  pub size : length buffer′ ≡ length buffer
-  pub inside : at ≤ length buffer
-  pub lines : from + linesIn (length buffer) (drop from ls) ≡ next + linesIn (length buffer - at) (drop next ls)
-  pub bytes : bytesIn (length buffer) (drop from ls) ≡ take at buffer′ ++ bytesIn (length buffer - at) (drop next ls)
-  pub rest : drop at buffer′ ≡ drop at buffer

@@ -1,6 +1,6 @@
 // The lines of a listing, each made in memory of its own.
 ghost use mathlib.Core.Path.{_≡_};
-ghost use Prim.Native.Nat.{_+_, _≤_, _<_};
+ghost use Prim.Native.Nat.{_+_, _≤_};
 ghost use lib.ListN.{length};
 ghost use Rattle.sets.specs.Ascii.{ascii};
 ghost use Rattle.sets.specs.Sets.{has};

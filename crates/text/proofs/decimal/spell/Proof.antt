@@ -7,9 +7,6 @@ use borrow.Author.Needs.{needs}
 use Rattle.text.proofs.Digits.{Spelling, spelling-none, spelling-more, spelling-done}
 use Rattle.text.proofs.decimal.spell.Statement.{statement}
 use Rattle.text.proofs.decimal.spell.Tie as tie
-use Rattle.text.proofs.decimal.spell.Reads as reads
-use Rattle.text.proofs.decimal.spell.Lts as lts
-use Rattle.text.proofs.decimal.digit.Reads as digit-reads
 
 abbrev Inv-loop : tie.InvT-loop
 Inv-loop n digits₀ rest₀ start₀ digits rest start = Spelling n rest start digits

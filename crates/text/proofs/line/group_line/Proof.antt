@@ -1,5 +1,4 @@
 -- group_line meets its contract: three labelled numbers, the members and a newline.
-use native.Mathlib.Omega.{arith}
 use borrow.Author.Needs.{needs}
 use Rattle.text.specs.Listing.{groupLine}
 use Rattle.text.proofs.Appended.{appends-then, makes}

@@ -1,5 +1,4 @@
 -- head_line meets its contract: three labelled numbers and a newline.
-use native.Mathlib.Omega.{arith}
 use borrow.Author.Needs.{needs}
 use Rattle.text.specs.Listing.{headLine}
 use Rattle.text.proofs.Appended.{appends-then, makes}

@@ -1,5 +1,4 @@
 -- refusal_line meets its contract: two labelled numbers and a newline.
-use native.Mathlib.Omega.{arith}
 use borrow.Author.Needs.{needs}
 use Rattle.text.specs.Listing.{refusalLine}
 use Rattle.text.proofs.Appended.{appends-then, makes}

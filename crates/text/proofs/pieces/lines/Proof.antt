@@ -8,9 +8,9 @@ use borrow.Author.Needs.{needs}
 use Rattle.groups.specs.Refusals.{writtenOutcome}
 use Rattle.text.specs.Pieces as p
 use Rattle.text.specs.Calls.{shownLines}
-use Rattle.text.specs.Making.{lineRoom, Fills}
+use Rattle.text.specs.Making.{lineRoom}
 use Rattle.text.proofs.LinesShown.{shown-count}
-use Rattle.text.proofs.Filling.{fills-none, fills-more, full-stop, end-stop, fills-done}
+use Rattle.text.proofs.Filling.{Fills, fills-none, fills-more, full-stop, end-stop, fills-done}
 use Rattle.text.proofs.pieces.lines.Statement.{statement}
 use Rattle.text.proofs.pieces.lines.Tie as tie
 

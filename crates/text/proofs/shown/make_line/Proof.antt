@@ -1,9 +1,5 @@
 -- make_line meets its contract: the line of a refusal, or one of the report.
-use mathlib.Core.Path.{_≡_, sym, subst, ap}
 use borrow.Author.Needs.{needs}
-use Rattle.groups.specs.Refusals.{writtenOutcome}
-use Rattle.text.specs.Making.{lineCount}
-use Rattle.text.specs.Calls.{shownLines}
 use Rattle.text.proofs.LinesShown.{refusal-shown}
 use Rattle.text.proofs.shown.make_line.Statement.{statement}
 use Rattle.text.proofs.shown.make_line.Tie as tie

@@ -1,5 +1,4 @@
 -- report_line meets its contract: the first line, or that of the record at its place.
-use mathlib.Core.Path.{_≡_, sym, subst}
 use borrow.Author.Needs.{needs}
 use Rattle.text.proofs.LinesShown.{shown-head, shown-record}
 use Rattle.text.proofs.shown.report_line.Statement.{statement}
