@@ -1,4 +1,5 @@
 -- `TickSet::first_in` meets its contract.
+use native.Mathlib.Omega.{arith}
 use borrow.Author.Needs.{needs}
 use Rattle.log.proofs.TickSets.{first-high, first-low, first-both}
 use Rattle.log.proofs.ticks.TickSet.first_in.Statement.{statement}
@@ -17,7 +18,7 @@ first-bit-requires-2 : tie.Need-first-bit-requires-2
 first-bit-requires-2 c κs = search needs
 
 returns-2 : tie.Need-returns-2
-returns-2 c = first-low (c .before .before .before .args .self) (c .if2 .taken) (c .before .first-bit2 .ensures)
+returns-2 c = first-low (c .before .before .before .args .self) (omega arith) (c .before .first-bit2 .ensures)
 
 first-bit-requires-3 : tie.Need-first-bit-requires-3
 first-bit-requires-3 c κs = search needs
