@@ -72,7 +72,9 @@ further-holds =
     then refl
     then refl
     then refl
+    then refl
     -- tidy
+    then refl
     then refl
     then refl
     then refl

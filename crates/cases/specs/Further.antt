@@ -35,11 +35,15 @@ further =
     -- a wrong count comes before a byte after ED
     ∷ read (BH 4 3 ++ ED 1 ++ 9 ∷ []) (sevens 12) (refused 6 4) (sevens 12)
     ∷ read (BH 4 3 ++ ED 0 ++ 9 ∷ []) (sevens 12) (refused 7 10) (sevens 12)
+    -- a refused log comes before too few words
+    ∷ read equalBadges (sevens 11) (refused 4 4) (sevens 11)
     -- tidy: words and bytes after the answer stay; where the buffer is too short, the words hold the day; too few words come before that
     ∷ tidy d1Variant (sevens 13) (sevens 34) (success 34) (d1Words ++ 7 ∷ []) d1Log
     ∷ tidy d1Variant (sevens 12) (sevens 36) (success 34) d1Words (d1Log ++ 7 ∷ 7 ∷ [])
     ∷ tidy d1Variant (sevens 12) (sevens 33) (refused 9 0) d1Words (sevens 33)
     ∷ tidy d1Variant (sevens 11) (sevens 33) (refused 8 0) (sevens 11) (sevens 33)
+    -- the pair of the smaller badge comes first, though its larger badge is the larger one
+    ∷ tidy (BH 4 1 ++ CT 2 1 0 0 ++ CT 0 3 0 0 ++ ED 2) (sevens 4) (sevens 22) (success 22) (badges (3 ∷ []) ∷ badges (2 ∷ []) ∷ badges (1 ∷ []) ∷ badges (0 ∷ []) ∷ []) (BH 4 1 ++ CT 0 3 0 0 ++ CT 1 2 0 0 ++ ED 2)
     -- a log without CT tidies to itself
     ∷ tidy emptyLog (sevens 12) (sevens 10) (success 10) emptyWords emptyLog
     -- write: a byte after the answer stays, and 33 bytes are too few
