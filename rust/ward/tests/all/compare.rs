@@ -160,7 +160,7 @@ fn days_of_all_sizes() {
 #[test]
 fn largest_days() {
     let mut random = Random(6);
-    for (density, keep) in [(5, 80), (50, 0), (90, 80), (100, 100), (0, 0)] {
+    for (density, keep) in [(1, 0), (5, 80), (50, 0), (90, 80), (100, 100), (0, 0)] {
         let words = random_day(&mut random, 64, 96, density, keep).words();
         compare_words(&mut random, &words, 64, 96);
     }

@@ -29,8 +29,8 @@ fn all_in_contact() {
     }
 }
 
-/// One badge away in each tick: a group on each span of at most 62 ticks, 97·62 - (1 + .. + 62) = 4,061 in all, since every longer span has a smaller order.
-/// In the best plan one part is as long as can be, and all others have one tick and order 62.
+/// One badge away in each tick: a group on each span of at most 62 ticks, 97·62 - (1 + .. + 62) = 4,061 in all, since every longer span has a smaller
+/// order. In the best plan one part is as long as can be, and all others have one tick and order 62.
 #[test]
 fn one_badge_away_in_each_tick() {
     let day = Handed::new(&one_away().words(), 64, 96);
@@ -47,6 +47,14 @@ fn one_badge_away_in_each_tick() {
         assert_eq!(sum(&plan), 62 * (h - 1) + if h < 35 { 0 } else { h - 34 });
         assert!(parts(&plan).iter().all(|part| *part == core_with_one_away(part.1, part.2)));
     }
+}
+
+/// Badge 63 with another badge in each tick, badge t mod 63 in tick t: a group of order 1 in each tick, and none on two.
+#[test]
+fn another_partner_in_each_tick() {
+    let day = Handed::new(&day_by(64, 96, |t, u, v| (u, v) == (t % 63, 63)).words(), 64, 96);
+    let groups: Vec<_> = (0..96).map(|t| (1, t, t, 1 << (t % 63) | 1 << 63)).collect();
+    assert_eq!(day.report(10 + 13 * 96), Ok(model::report_bytes(64, 96, &groups)));
 }
 
 /// A word too few; a last tick of T; a number of parts above T; a byte too few; and in the last tick a bit without its mirror.

@@ -55,14 +55,14 @@ fn by_hand() {
 /// The log is judged first, then the words, then the bytes for D1's report of 36.
 #[test]
 fn too_little_lent() {
-    for (len, lent, room, text) in [(34, 11, 36, "8 at 0"), (34, 0, 0, "8 at 0"), (34, 12, 35, "9 at 0"), (34, 12, 0, "9 at 0"), (4, 0, 0, "1 at 4")]
-    {
+    let cases = [(34, 11, 36, "8 at 0"), (34, 0, 0, "8 at 0"), (34, 12, 35, "9 at 0"), (34, 12, 0, "9 at 0"), (4, 0, 0, "1 at 4")];
+    for (len, lent, room, text) in cases {
         assert_eq!(listed(&TIDY[..len], lent, room), format!("refused {text}\n"));
     }
 }
 
-/// Each number of words up to 20, and of bytes up to 49: of D1's logs, for which 12 and 36 are enough, and of logs that are refused, the second after good
-/// contacts.
+/// Each number of words up to 20, and of bytes up to 49: of D1's logs, for which 12 and 36 are enough, and of logs that are refused, the second after
+/// good contacts.
 #[test]
 fn words_and_bytes_lent() {
     let refused: [&[u8]; 2] = [b"BH\x04\x61ED\x00\x00\x00\x00", b"BH\x04\x03CT\x00\x01\x00\x01CT\x02\x03\x00\x03ED\x02\x00\x00\x00"];

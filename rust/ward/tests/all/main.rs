@@ -1,6 +1,6 @@
-//! The tests of every call: inputs whose answers are written by hand or given by a rule, one file for each thing tested, and random ones (`compare`). All
-//! are compared with a second implementation (`model`), with every lent buffer, those that a call only reads too, whole, before and after, and with
-//! guards around it.
+//! The tests of every call: inputs whose answers are written by hand or given by a rule, one file for each thing tested, and random ones (`compare`).
+//! They are compared with a second implementation (`model`), too. Every lent buffer, also one that a call only reads, is compared whole, before and
+//! after, with guards around it.
 
 mod model;
 mod support;

@@ -44,8 +44,8 @@ fn words_after_the_day() {
     }
 }
 
-/// A graph in which the badges below some c are all in contact, and each badge with the next; in a ring the last is in contact with the first, too. With
-/// a clique of 2 it is a path, or a ring.
+/// A graph in which the badges below some c are all in contact, and each badge with the next; in a ring the last is in contact with the first, too.
+/// With a clique of 2 it is a path, or a ring.
 #[derive(Clone, Copy)]
 pub struct Shape {
     pub badges: usize,

@@ -8,12 +8,13 @@ use crate::support::listings::{Listing, walk};
 use crate::support::probes;
 use crate::support::random::Random;
 
-/// D1's three lines of 92 bytes, a first line alone, and a refusal: from each of eight places, in buffers of every length up to 100.
+/// D1's three lines of 92 bytes, a first line alone, and a refusal: from each of eight places, and from far past the end, in buffers of every length
+/// up to 100.
 #[test]
 fn small_texts() {
     for log in [&TIDY[..], b"BH\x04\x03ED\x00\x00\x00\x00", b"BH\x04\x03CT\x00\x00\x00\x00"] {
         let listing = Listing::of_log(log, 20, 60);
-        for from in 0..8 {
+        for from in (0..8).chain([4657, usize::MAX]) {
             for size in 0..=100 {
                 listing.compare(log, 20, 60, from, size);
             }
@@ -47,8 +48,8 @@ impl Prepared {
         next
     }
 
-    /// The whole text in pieces of many sizes; pieces from random places, at most a few past the end; and calls from the end and past it, which give 0 bytes
-    /// and the same place.
+    /// The whole text in pieces of many sizes; pieces from random places, at most a few past the end; and calls from the end and past it, which give
+    /// 0 bytes and the same place.
     fn comes_in_pieces(&self) {
         // the first line of 2,078 groups has 31 bytes, and the longest line of any day 213
         for size in [0, 1, 30, 31, 32, 212, 213, 214, 319, 320, 321, 999, 1000, 1001, 20000, 65536] {

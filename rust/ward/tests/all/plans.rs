@@ -38,8 +38,8 @@ fn words_after_the_day() {
     }
 }
 
-/// The sums for one, two and three parts around every query, from the empty one and {0} to {0,1,2,3}. Document 01 has 1, 3 and 5 around {2}, 0 around {0}
-/// in one part, and 2 around {0,3} in three.
+/// The sums for one, two and three parts around every query, from the empty one and {0} to {0,1,2,3}. Document 01 has 1, 3 and 5 around {2}, 0 around
+/// {0} in one part, and 2 around {0,3} in three.
 const SUMS: [[usize; 3]; 16] = [
     [1, 3, 5],
     [0, 2, 4],

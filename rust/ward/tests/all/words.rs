@@ -15,8 +15,8 @@ const CALLS: [Call; 4] = [
     |words, n, ticks, out| ward::plan(words, n, ticks, 0, 1, out),
 ];
 
-/// The number by which the check refuses words that are handed over with n and T, 0 for a day. Every call gives it, with no byte lent and with some, and
-/// so does the model.
+/// The number by which the check refuses words that are handed over with n and T, 0 for a day. Every call gives it, with no byte lent and with some,
+/// and so does the model.
 fn checked(words: &[u64], n: usize, ticks: usize) -> u8 {
     let number = model::check(words, n, ticks).map_or_else(|refusal| refusal.0, |_| 0);
     let mut lent = Lent::holding(words);

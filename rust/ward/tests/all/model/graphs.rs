@@ -31,7 +31,8 @@ impl Graph {
         (0..self.joined.len()).filter(|u| set >> u & 1 == 1).map(|u| self.degree(set, u)).min()
     }
 
-    /// The core of an order among the badges of a set: those with a degree below k are dropped until none is left to drop. Empty where nobody is left.
+    /// The core of an order among the badges of a set: those with a degree below k are dropped until none is left to drop. Empty where nobody is
+    /// left.
     pub fn core(&self, base: u64, k: usize) -> u64 {
         let n = self.joined.len();
         let mut left = base;

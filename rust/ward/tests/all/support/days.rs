@@ -42,8 +42,8 @@ pub fn one_away() -> Day {
     day_by(64, 96, |t, u, v| u != t % 64 && v != t % 64)
 }
 
-/// Its highest core on a span. In a span of L ticks, L below 64, L badges are away; the others stay in contact, and make a core of order 63 - L where L
-/// is at most 62. On a longer span no two stay: order 0, and all badges.
+/// Its highest core on a span. In a span of L ticks, L below 64, L badges are away; the others stay in contact, and make a core of order 63 - L where
+/// L is at most 62. On a longer span no two stay: order 0, and all badges.
 pub fn core_with_one_away(first: usize, last: usize) -> Record {
     let size = last - first + 1;
     if size > 62 {
@@ -53,8 +53,8 @@ pub fn core_with_one_away(first: usize, last: usize) -> Record {
     (63 - size, first, last, !away)
 }
 
-/// Runs of one tick each, none of them touching, of 64 badges in 96 ticks: tick, smaller badge, larger badge. A pair has 48, one after the other, and 56
-/// pairs have the same smaller badge.
+/// Runs of one tick each, none of them touching, of 64 badges in 96 ticks: tick, smaller badge, larger badge. A pair has 48, one after the other, and
+/// 56 pairs have the same smaller badge.
 pub fn runs_by_pair() -> impl Iterator<Item = (usize, usize, usize)> {
     (0..20000).map(|run| (run, run / 48)).map(|(run, pair)| (run % 48 * 2, pair / 56, 8 + pair % 56))
 }
@@ -78,12 +78,13 @@ pub fn away_once() -> Day {
     day_by(64, 96, |t, u, v| u != t && v != t)
 }
 
-/// The order of its group on a span from f to l; 0 where there is no group. Badges f to l are away at some time, and the others are in contact throughout.
+/// The order of its group on a span from f to l; 0 where there is no group. Badges f to l are away at some time, and the others are in contact
+/// throughout.
 ///
-/// Where l is at most 62, 63 - (l - f) badges stay and make a core of order 62 - (l - f). A longer span has a smaller order, so there is a group wherever
-/// the order is 1 or more: 2,015 of them. Where l is 63 or more and f at most 63, the f badges below f stay, whatever l is, and make a core of order f - 1.
-/// So there is a group only with l 95, the longest such span, and where f is 2 or more: 62 of them. From tick 64 on nobody is away: one group of order 63,
-/// on 64 to 95. That makes 2,078 in all.
+/// Where l is at most 62, 63 - (l - f) badges stay and make a core of order 62 - (l - f). A longer span has a smaller order, so there is a group
+/// wherever the order is 1 or more: 2,015 of them. Where l is 63 or more and f at most 63, the f badges below f stay, whatever l is, and make a core
+/// of order f - 1. So there is a group only with l 95, the longest such span, and where f is 2 or more: 62 of them. From tick 64 on nobody is away:
+/// one group of order 63, on 64 to 95. That makes 2,078 in all.
 fn order_with_away_once(first: usize, last: usize) -> usize {
     if last < 63 {
         62 - (last - first)

@@ -34,7 +34,8 @@ impl Listing {
         if room < listing.report.len() { Listing::refused((9, 0), listing.words) } else { listing }
     }
 
-    /// Prepares a log, lent so many words and bytes, and compares the piece from a place on in a buffer of so many bytes. Gives the place of the next line.
+    /// Prepares a log, lent so many words and bytes, and compares the piece from a place on in a buffer of so many bytes. Gives the place of the next
+    /// line.
     pub fn compare(&self, log: &[u8], lent: usize, room: usize, from: usize, size: usize) -> usize {
         let (mut bytes, mut words, mut report, mut out) = (Lent::holding(log), Lent::room(lent), Lent::room(room), Lent::room(size));
         let piece = probes::listing(bytes.slice(), words.slice(), report.slice(), from, out.slice());
