@@ -1,14 +1,16 @@
--- The answer of an exported call: five numbers, written whole. "the refusal's number (0: the call succeeded), its offset, badges and ticks
--- (what read found, else 0), and count (for read the number of CT records, for the others the bytes written)"
+-- The answer of an exported call, five numbers that are written whole: a refusal's number and byte offset, and three zeros; or two zeros and
+-- three values: the badges, the ticks and the number of CT records that read found, or two zeros and the number of bytes written.
 use mathlib.Core.List.{List, [], _∷_}
 use Prim.Native.Nat.{ℕ}
 use Rattle.records.specs.Outcomes.{Outcome, refused, success}
 use Rattle.records.specs.Verdicts.{Values}
 
-unfoldable pub readAnswer : Outcome Values → List ℕ
-readAnswer (refused number offset) = number ∷ offset ∷ 0 ∷ 0 ∷ 0 ∷ []
-readAnswer (success v) = 0 ∷ 0 ∷ v .badges ∷ v .ticks ∷ v .contacts ∷ []
+abbrev pub answerOf : {A : Type 0} → (A → List ℕ) → Outcome A → List ℕ
+answerOf values (refused number offset) = number ∷ offset ∷ 0 ∷ 0 ∷ 0 ∷ []
+answerOf values (success a) = 0 ∷ 0 ∷ values a
 
-unfoldable pub writtenAnswer : Outcome ℕ → List ℕ
-writtenAnswer (refused number offset) = number ∷ offset ∷ 0 ∷ 0 ∷ 0 ∷ []
-writtenAnswer (success count) = 0 ∷ 0 ∷ 0 ∷ 0 ∷ count ∷ []
+abbrev pub readAnswer : Outcome Values → List ℕ
+readAnswer o = answerOf (λ v. v .badges ∷ v .ticks ∷ v .contacts ∷ []) o
+
+abbrev pub writtenAnswer : Outcome ℕ → List ℕ
+writtenAnswer o = answerOf (λ count. 0 ∷ 0 ∷ count ∷ []) o

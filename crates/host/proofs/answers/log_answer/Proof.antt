@@ -1,40 +1,22 @@
 -- log_answer meets its contract: a refusal has its number and offset, and success its values.
 use borrow.Author.Needs.{needs}
-use Rattle.host.specs.Answers.{writtenAnswer}
 use Rattle.host.proofs.answers.log_answer.Statement.{statement}
 use Rattle.host.proofs.answers.log_answer.Tie as tie
 
 enum-known-written : tie.Need-enum-known-written
 enum-known-written c = search needs
 
+refused-requires : tie.Need-refused-requires
+refused-requires c κs = search needs
+
 enum-known-written-2 : tie.Need-enum-known-written-2
 enum-known-written-2 c = search needs
 
-number-requires : tie.Need-number-requires
-number-requires c κs = search needs
-
-cast-t7 : tie.Need-cast-t7
-cast-t7 c = search needs
-
-offset-requires : tie.Need-offset-requires
-offset-requires c κs = search needs
-
 returns : tie.Need-returns
-unfolding writtenAnswer
-returns c = rw (c .before .written .given .1)
+returns c = rw (c .before .before .written .given .1) (c .refused .ensures)
 
 returns-2 : tie.Need-returns-2
-unfolding writtenAnswer
-returns-2 c = rw (c .before .before .before .written2 .given .1, c .before .number .ensures, c .offset .ensures)
+returns-2 c = rw (c .before .written2 .given .1)
 
 pub log-answer-spec : {M : Type 1} → statement M
-log-answer-spec =
-    tie.close
-    (tie.spec
-    enum-known-written
-    enum-known-written-2
-    number-requires
-    cast-t7
-    offset-requires
-    returns
-    returns-2)
+log-answer-spec = tie.close (tie.spec enum-known-written refused-requires enum-known-written-2 returns returns-2)
