@@ -1,7 +1,7 @@
 #!/usr/bin/env bash
 # Counts the instructions of one call on each day of the benchmark, in millions: figures that repeat. One table has the report, made by the engine and
-# by each baseline; the other has the engine's plan around badges 0 and 1 in 8 parts, and read and tidy of the day's log, '-' where a day has none,
-# having more than 8,000 runs. Each count is of one call in a new process; buffers are not cleared between calls, and no clearing is counted.
+# by each baseline; the other has the engine's plan around badges 0 and 1 in 8 parts, the core numbers of ticks 0 to 3, write, and read and tidy of the
+# day's log, '-' where a day has none, having more than 8,000 runs. Each count is of one call in a new process; buffers are not cleared between calls, and no clearing is counted.
 # Needs cargo, valgrind, and target/staticlib/libhost.a, which `rt staticlib host` writes. Its arguments are the days, all five if there are none.
 set -euo pipefail
 cd "$(dirname "${BASH_SOURCE[0]}")/../rust/ward"
@@ -20,7 +20,7 @@ count() {
 }
 
 # A count in millions, and a ratio.
-millions() { awk -v count="$1" 'BEGIN { printf "%12s", count == 0 ? "-" : sprintf("%.2f", count / 1e6) }'; }
+millions() { awk -v count="$1" 'BEGIN { printf "%12s", count == 0 ? "-" : sprintf("%.3f", count / 1e6) }'; }
 ratio() { awk -v a="$1" -v b="$2" 'BEGIN { printf "%.2f", a / b }'; }
 
 declare -A counts
@@ -37,7 +37,7 @@ for day in "$@"; do
     printf '%16s%14s\n' "$(ratio "${counts[engine]}" "${counts[bitsets]}")" "$(ratio "${counts[lists]}" "${counts[engine]}")"
 done
 
-others=(plan read tidy)
+others=(plan numbers write read tidy)
 printf '\n%-20s' "others, millions"
 printf '%12s' "${others[@]}"
 printf '\n'

@@ -3,7 +3,7 @@ ghost use mathlib.Core.Path.{_≡_};
 ghost use Rattle.groups.specs.Refusals.{numberOf, offsetOf};
 
 pub enum Refusal {
-    // One that the log part gives: 8 to 11.
+    // One that the log part gives: 8 to 11 by the calls here, and 1 to 8 by the listing, which reads a log.
     Log(log::Refusal),
     // 12: a span with first after last, or last of T or more.
     InvalidSpan,

@@ -1,5 +1,5 @@
-//! Compares the report with baselines in Rust, and measures the plan around badges 0 and 1 in 8 parts, and read and tidy of the day's log, on days of
-//! 64 badges and 96 ticks from a fixed generator. Medians of wall time, and ratios, in one run. Every baseline does the checks 10, 8, 11 and 9 and
+//! Compares the report with baselines in Rust, and measures the plan around badges 0 and 1 in 8 parts, the core numbers of ticks 0 to 3, write, and read
+//! and tidy of the day's log, on days of 64 badges and 96 ticks from a fixed generator. Medians of wall time, and ratios, in one run. Every baseline does the checks 10, 8, 11 and 9 and
 //! the encoding, as the engine does, and its bytes are compared with the engine's first. Buffers are not cleared between calls.
 //!
 //!     cargo run --offline --release --example bench            the tables
@@ -20,26 +20,29 @@ fn engine(words: &[u64], n: usize, ticks: usize, out: &mut [u8]) -> Option<usize
 
 const REPORTS: [(&str, Report); 4] =
     [("engine", engine), ("lists", baselines::lists::report), ("algorithm2", baselines::algorithm2::report), ("bitsets", baselines::bitsets::report)];
-const OTHERS: [&str; 3] = ["plan", "read", "tidy"];
+const OTHERS: [&str; 5] = ["plan", "numbers", "write", "read", "tidy"];
 
 /// A call on one day with buffers of its own, to be made so often as one likes: the number of bytes, or of contact records, that it gives.
 type Call<'a> = Box<dyn FnMut() -> usize + 'a>;
 
-/// The call of a name; none for read and tidy where the day has no log, having more than 8,000 runs.
+/// The call of a name; none for write, read and tidy where the day has no log, having more than 8,000 runs.
 fn ready<'a>(name: &str, words: &'a [u64]) -> Option<Call<'a>> {
     if let Some(&(_, report)) = REPORTS.iter().find(|r| r.0 == name) {
         let mut out = vec![0; ward::REPORT_BYTES];
         return Some(Box::new(move || report(words, 64, 96, &mut out).expect("a report")));
     }
     let mut out = vec![0; ward::LOG_BYTES];
-    if name == "plan" {
-        return Some(Box::new(move || ward::plan(words, 64, 96, 0b11, 8, &mut out).expect("a plan")));
+    match name {
+        "plan" => return Some(Box::new(move || ward::plan(words, 64, 96, 0b11, 8, &mut out).expect("a plan"))),
+        "numbers" => return Some(Box::new(move || ward::core_numbers(words, 64, 96, 0, 3, &mut out).expect("core numbers"))),
+        _ => {}
     }
     let mut log = vec![0; ward::LOG_BYTES];
     let size = ward::write(words, 64, 96, &mut log).ok()?;
     log.truncate(size);
     let mut work = vec![0; ward::WORDS];
     match name {
+        "write" => Some(Box::new(move || ward::write(words, 64, 96, &mut out).expect("a day with a log"))),
         "read" => Some(Box::new(move || ward::read(&log, &mut work).expect("a log").contacts)),
         "tidy" => Some(Box::new(move || ward::tidy(&log, &mut work, &mut out).expect("a log"))),
         _ => panic!("no call {name}"),
