@@ -1,3 +1,3 @@
--- The calls for C: what a reader has to believe. Laws are in proofs/.
+-- The calls for C: what a reader has to believe.
 pub mod Answers
 pub mod PlanAnswers

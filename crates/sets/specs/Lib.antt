@@ -1,4 +1,4 @@
--- Sets of badges: what a reader has to believe. Laws are in proofs/.
+-- Sets of badges, tests, numbers and text in bytes, and lists: what a reader has to believe. Laws are in proofs/.
 pub mod Bools
 pub mod Sets
 pub mod Bytes

@@ -1,4 +1,4 @@
--- Laws of the definitions in specs/, from the bottom up. Other crates cite Theorems and Filling.
+-- Laws of the definitions in specs/, from the bottom up. Theorems has the promises; the listing program cites Filling.
 pub mod Digits
 pub mod Appended
 pub mod PrepareCall

@@ -1,4 +1,4 @@
--- What others cite of the listing: the pieces that `lines` gives, end to end, are the listing; the first 48,011 bytes of a log decide it; and it
+-- What the listing promises: the pieces that `lines` gives, end to end, are the listing; the first 48,011 bytes of a log decide it; and it
 -- shows no refusal by 8 or 9.
 use mathlib.Core.Path.{_≡_, refl, sym, ap, _∙_, subst}
 use mathlib.Core.List.{List, [], _∷_, _++_, map, append-assoc, List·Memᴰ, List·Memᴰ·head, List·Memᴰ·tail, List·Memᴰ·not-nil, List·Memᴰ·eq-of-singleton, Memᴰ·append-right}

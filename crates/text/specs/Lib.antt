@@ -1,4 +1,5 @@
--- The listing's text: what a reader has to believe. Laws are in proofs/. (`Making` is cited by private functions alone.)
+-- The listing's text: what a reader has to believe. Laws are in proofs/. (Private functions alone cite
+-- `Making`, but for the room of a line.)
 pub mod Decimal
 pub mod Listing
 pub mod Pieces
