@@ -11,7 +11,8 @@ use borrow.Author.Tests.{lt-ltb, le-ltb, ltb-true, ltb-false}
 use Rattle.sets.specs.Bools.{isnt}
 use Rattle.sets.proofs.Bools.{clash, to-false, same-test}
 use Rattle.records.specs.Limits.{withinLimits, wordsFor}
-use Rattle.records.specs.Outcomes.{Outcome, refused, success, refuseIf}
+use Rattle.records.specs.Outcomes.{refused, success, refuseIf}
+use Rattle.records.proofs.Outcomes.{refused-success}
 use Rattle.days.specs.Days.{neighbours, dayWords, IsDay, LentDay, isDay}
 use Rattle.days.specs.Calls.{checkOf}
 use Rattle.days.proofs.Days.{day-length, neighbours-append, relation-day, day-head}
@@ -37,25 +38,21 @@ pub check-day : (n T : ℕ) (ws : List ℕ) → withinLimits n T ≡ true → wo
 unfolding checkOf refuseIf isnt
 check-day n T ws e h d = rw (e, le-ltb _ _ h, day-in n T ws d)
 
--- no outcome is both a refusal and a success
-not-both : {o : Outcome (Unit {0})} {number offset : ℕ} → o ≡ refused number offset → o ≡ success tt → ⊥
-not-both {o} {number} {offset} e f = let z : _≡_ {A = ℕ} 0 1 = cc in omega arith
-
 -- words that pass are a day's
 pub check-passed : (n T : ℕ) (ws : List ℕ) → checkOf n T ws ≡ success tt → LentDay n T ws
 check-passed n T ws e = limits (withinLimits n T) refl
   where
     day : withinLimits n T ≡ true → wordsFor n T ≤ length ws → (b : Bool) → isDay n T ws ≡ b → LentDay n T ws
     day l h true f = record { limits = l; enough = h; day = day-of n T ws f }
-    day l h false f = absurd (not-both (check-broken n T ws l h (λ d. clash (day-in n T ws d) f)) e)
+    day l h false f = absurd (refused-success (sym (check-broken n T ws l h (λ d. clash (day-in n T ws d) f)) ∙ e))
 
     enough : withinLimits n T ≡ true → (b : Bool) → ltb (length ws) (wordsFor n T) ≡ b → LentDay n T ws
-    enough l true f = absurd (not-both (check-few n T ws l (ltb-true _ _ f)) e)
+    enough l true f = absurd (refused-success (sym (check-few n T ws l (ltb-true _ _ f)) ∙ e))
     enough l false f = day l (ltb-false _ _ f) (isDay n T ws) refl
 
     limits : (b : Bool) → withinLimits n T ≡ b → LentDay n T ws
     limits true f = enough f (ltb (length ws) (wordsFor n T)) refl
-    limits false f = absurd (not-both (check-limits n T ws f) e)
+    limits false f = absurd (refused-success (sym (check-limits n T ws f) ∙ e))
 
 -- words after the first n×T change nothing
 pub check-append : (n T : ℕ) (ws rest : List ℕ) → length ws ≡ wordsFor n T → checkOf n T (ws ++ rest) ≡ checkOf n T ws

@@ -90,7 +90,7 @@ day-by n T ws r e f g = same-words n T ws _ e (day-length n T r) (λ t u h k. ex
     (λ v i. let x = f t u v h k i in in-day n T r t u v h k (x .0) (x .1))
     (λ v i. let x = of-day n T r t u v h k i in g t u v h k (x .0) (x .1)))
 
--- two relations have the same words exactly when they are equal below T and n
+-- two relations that are equal below T and n have the same words
 pub day-same : (n T : ℕ) (r q : ℕ → ℕ → ℕ → Bool) → ((t u v : ℕ) → t < T → u < n → v < n → r t u v ≡ q t u v) → dayWords n T r ≡ dayWords n T q
 day-same n T r q e = day-by n T _ q (day-length n T r)
     (λ t u v h k i. let x = of-day n T r t u v h k i in (x .0, sym (e t u v h k (x .0)) ∙ x .1))

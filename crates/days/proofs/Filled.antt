@@ -12,7 +12,7 @@ use Rattle.records.specs.declared.record.Record.{Record}
 use Rattle.records.specs.declared.record.Record.the-variants.{End}
 use Rattle.records.specs.declared.record.Decoded.{Decoded}
 use Rattle.records.specs.declared.record.Decoded.the-variants as d
-use Rattle.records.specs.Limits.{maxContacts, wordsFor}
+use Rattle.records.specs.Limits.{maxContacts, withinLimits, wordsFor}
 use Rattle.records.specs.Records.{sizeOf, kindOf, decode, encode, encodeAll}
 use Rattle.records.specs.Outcomes.{success}
 use Rattle.records.specs.Judging.{validContact, judge}
@@ -149,7 +149,10 @@ not-these x e (inr (inr f)) = omega arith
 pub whole-only : (x : Decoded) (r : Record) → x ≡ d.Whole r → OneOf (1 ∷ 2 ∷ 3 ∷ []) (tagOf the-type x) → ⊥
 whole-only x r e = not-these (tagOf the-type x) (ap (tagOf the-type) e)
 
--- an accepted log's records fit where its words are there
-pub fitting : {log : List ℕ} {n T words : ℕ} {r : Record} → Accepts log n T → wordsFor n T ≤ words → Admissible n T r → Fitting n words r
+-- an accepted log's n and T are within their limits, and its records fit where its words are there
+pub accepts-limits : {log : List ℕ} {n T : ℕ} → Accepts log n T → withinLimits n T ≡ true
 unfolding judge
-fitting {log} {n} {T} a h i = record { few = omega (arith, a .badges, limits-of (accepted-of 0 log (a .records) (a .accepted) .limits) .few); T = T; there = h; admissible = i }
+accepts-limits {log} a = rw (← a .badges, ← a .ticks) (accepted-of 0 log (a .records) (a .accepted) .limits)
+
+pub fitting : {log : List ℕ} {n T words : ℕ} {r : Record} → Accepts log n T → wordsFor n T ≤ words → Admissible n T r → Fitting n words r
+fitting {log} {n} {T} a h i = record { few = limits-of (accepts-limits a) .few; T = T; there = h; admissible = i }

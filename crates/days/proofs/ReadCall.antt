@@ -7,17 +7,17 @@ use lib.ListN.{length, drop}
 use lib.Dec.{ltb}
 use borrow.Author.Tests.{lt-ltb, le-ltb, ltb-true, ltb-false}
 use Rattle.records.specs.declared.record.Record.{Record}
-use Rattle.records.specs.Limits.{wordsFor}
+use Rattle.records.specs.Limits.{wordsFor, maxWords}
 use Rattle.records.specs.Outcomes.{Outcome, refused, success}
 use Rattle.records.specs.Judging.{judge}
 use Rattle.records.specs.Meaning.{badgesOf, ticksOf}
 use Rattle.records.specs.Verdicts.{Values, valuesOf, verdictOf}
 use Rattle.records.proofs.Outcomes.{refused-success, success-same, refused-same}
-use Rattle.records.proofs.Accepting.{accepted-of}
 use Rattle.records.proofs.WithinLimits.{limits-of, words-most}
 use Rattle.days.specs.Days.{dayOf}
 use Rattle.days.specs.Filling.{Accepts}
 use Rattle.days.specs.Calls.{Read, readJudged, readOf}
+use Rattle.days.proofs.Filled.{accepts-limits}
 
 abbrev pub left : Outcome Values → List ℕ → Read
 left answer words = record { answer = answer; words = words }
@@ -61,27 +61,21 @@ verdict-refused (success rs) number offset e = absurd (refused-success (sym e))
 
 -- an accepted log, with its values
 pub record Told (log : List ℕ) (n T m : ℕ) : Type 0 where
-  pub records : List Record
-  pub judged : judge log ≡ success records
-  pub badges : badgesOf records ≡ n
-  pub ticks : ticksOf records ≡ T
-  pub same : valuesOf records ≡ record { badges = n; ticks = T; contacts = m }
+  pub accepts : Accepts log n T
+  pub same : valuesOf (accepts .records) ≡ record { badges = n; ticks = T; contacts = m }
+
+unfoldable pub told-by : {log : List ℕ} {rs : List Record} {n T m : ℕ} → judge log ≡ success rs → valuesOf rs ≡ record { badges = n; ticks = T; contacts = m } → Told log n T m
+unfolding valuesOf
+told-by {log} {rs} e s = record { accepts = record { records = rs; accepted = e; badges = ap (λ (v : Values). v .badges) s; ticks = ap (λ (v : Values). v .ticks) s }; same = s }
 
 pub verdict-accepted : (log : List ℕ) (n T m : ℕ) → verdictOf (judge log) ≡ success (record { badges = n; ticks = T; contacts = m }) → Told log n T m
-unfolding verdictOf valuesOf
+unfolding verdictOf
 verdict-accepted log n T m e = go (judge log) refl e
   where
     go : (o : Outcome (List Record)) → judge log ≡ o → verdictOf o ≡ success (record { badges = n; ticks = T; contacts = m }) → Told log n T m
     go (refused k p) f g = absurd (refused-success g)
-    go (success rs) f g =
-        let s = success-same g in
-        record { records = rs; judged = f; badges = ap (λ (v : Values). v .badges) s; ticks = ap (λ (v : Values). v .ticks) s; same = s }
-
--- what filling asks
-pub accepts : {log : List ℕ} {n T m : ℕ} → Told log n T m → Accepts log n T
-accepts t = record { records = t .records; accepted = t .judged; badges = t .badges; ticks = t .ticks }
+    go (success rs) f g = told-by f (success-same g)
 
 -- the words of an accepted log are no more than those of the largest day
-pub accepted-words : {log : List ℕ} {n T m : ℕ} → Told log n T m → wordsFor n T ≤ 6144
-unfolding judge
-accepted-words {log} {n} {T} t = rw (← t .badges, ← t .ticks) (words-most _ _ (limits-of (accepted-of 0 log (t .records) (t .judged) .limits)))
+pub accepted-words : {log : List ℕ} {n T m : ℕ} → Told log n T m → wordsFor n T ≤ maxWords
+accepted-words t = words-most _ _ (limits-of (accepts-limits (t .accepts)))

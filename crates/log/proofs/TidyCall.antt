@@ -11,13 +11,12 @@ use Rattle.records.specs.Limits.{withinLimits, wordsFor}
 use Rattle.records.specs.Outcomes.{Outcome, refused, success, refuseIf, andThen}
 use Rattle.records.specs.Judging.{judge}
 use Rattle.records.specs.Meaning.{badgesOf, ticksOf, inContact}
-use Rattle.records.specs.Verdicts.{Values, valuesOf}
 use Rattle.records.proofs.Outcomes.{refused-success, success-same, refused-same}
-use Rattle.records.proofs.Accepting.{accepted-of}
 use Rattle.days.specs.Days.{adjacent, dayWords, dayOf}
 use Rattle.days.specs.Calls.{Read, readOf, checkOf}
 use Rattle.days.proofs.Days.{day-length, neighbours-append, in-day, of-day}
-use Rattle.days.proofs.ReadCall.{read-refused, read-few, read-success, Case, log-refused, words-few, words-enough, case-of}
+use Rattle.days.proofs.Filled.{accepts-limits}
+use Rattle.days.proofs.ReadCall.{read-refused, read-few, read-success, Case, log-refused, words-few, words-enough, case-of, Told, told-by}
 use Rattle.log.specs.Tidy.{tidyLog}
 use Rattle.log.specs.Buffers.{deliver}
 use Rattle.log.specs.Calls.{tidyBytes, writeOf, tidyBefore9, tidyOf}
@@ -78,21 +77,22 @@ tidy-delivers log work buffer e = rw e
 
 -- What reading answered decides it. An accepted log with words enough:
 pub record WasRead (log work : List ℕ) (n T m : ℕ) : Type 0 where
-  pub records : List Record
-  pub judged : judge log ≡ success records
-  pub enough : wordsFor (badgesOf records) (ticksOf records) ≤ length work
-  pub values : valuesOf records ≡ record { badges = n; ticks = T; contacts = m }
+  pub told : Told log n T m
+  pub enough : wordsFor n T ≤ length work
 
 answer-of : {a b : Read} → a ≡ b → a .answer ≡ b .answer
 answer-of {a} {b} e = ap (λ (x : Read). x .answer) e
 
 pub was-read : (log work : List ℕ) (n T m : ℕ) → readOf log work .answer ≡ success (record { badges = n; ticks = T; contacts = m }) → WasRead log work n T m
+unfolding told-by
 was-read log work n T m e = go (case-of log work)
   where
     go : Case log work → WasRead log work n T m
     go (log-refused k p f) = absurd (refused-success (sym (answer-of (read-refused log work k p f)) ∙ e))
     go (words-few rs f h) = absurd (refused-success (sym (answer-of (read-few log work rs f h)) ∙ e))
-    go (words-enough rs f h) = record { records = rs; judged = f; enough = h; values = success-same (sym (answer-of (read-success log work rs f h)) ∙ e) }
+    go (words-enough rs f h) =
+        let t = told-by f (success-same (sym (answer-of (read-success log work rs f h)) ∙ e)) in
+        record { told = t; enough = rw (t .accepts .badges, t .accepts .ticks) at h }
 
 -- what reading refuses, tidy refuses alike
 pub unread-refused : (log work : List ℕ) (number offset : ℕ) → readOf log work .answer ≡ refused number offset → tidyBefore9 log work ≡ refused number offset
@@ -105,25 +105,15 @@ unread-refused log work number offset e = go (case-of log work)
 
 -- what reading accepts is tidied from the words that it left
 module _ {log work : List ℕ} {n T m : ℕ} (w : WasRead log work n T m) where
-  badges : badgesOf (w .records) ≡ n
-  unfolding valuesOf
-  badges = ap (λ (x : Values). x .badges) (w .values)
-
-  ticks : ticksOf (w .records) ≡ T
-  unfolding valuesOf
-  ticks = ap (λ (x : Values). x .ticks) (w .values)
-
   pub read-limits : withinLimits n T ≡ true
-  unfolding judge
-  read-limits = rw (← badges, ← ticks) (accepted-of 0 log (w .records) (w .judged) .limits)
-
-  pub read-enough : wordsFor n T ≤ length work
-  read-enough = rw (← badges, ← ticks) (w .enough)
+  read-limits = accepts-limits (w .told .accepts)
 
   pub read-bytes : (left : List ℕ) → left ≡ readOf log work .words → tidyBefore9 log work ≡ tidyBytes 16 n T (adjacent n left)
   unfolding dayOf
   read-bytes left e =
-      let words : readOf log work .words ≡ dayOf (w .records) ++ drop (wordsFor (badgesOf (w .records)) (ticksOf (w .records))) work = ap (λ (x : Read). x .words) (read-success log work (w .records) (w .judged) (w .enough)) in
-      rw (← badges, ← ticks, e, words)
-      (before9-enough log work (w .records) (w .judged) (w .enough)
-      ∙ bytes-same 16 _ _ _ _ (λ t u v h k l. sym (adjacent-day _ _ (inContact (w .records)) _ t u v h k l)))
+      let a = w .told .accepts in
+      let h : wordsFor (badgesOf (a .records)) (ticksOf (a .records)) ≤ length work = rw (a .badges, a .ticks) (w .enough) in
+      let words : readOf log work .words ≡ dayOf (a .records) ++ drop (wordsFor (badgesOf (a .records)) (ticksOf (a .records))) work = ap (λ (x : Read). x .words) (read-success log work (a .records) (a .accepted) h) in
+      rw (← a .badges, ← a .ticks, e, words)
+      (before9-enough log work (a .records) (a .accepted) h
+      ∙ bytes-same 16 _ _ _ _ (λ t u v h k l. sym (adjacent-day _ _ (inContact (a .records)) _ t u v h k l)))

@@ -1,11 +1,11 @@
--- Laws of the limits: the test passes exactly when n and T are within them, and a day within them takes at most 6144 words.
+-- Laws of the limits: the test passes exactly when n and T are within them, and a day within them takes at most 6,144 words.
 use mathlib.Core.Path.{_≡_}
 use mathlib.Core.Bool.{true}
 use Prim.Native.Nat.{ℕ, _≤_}
 use native.Mathlib.Nat.{mul-le-mul}
 use borrow.Author.Tests.{leb-true, le-leb}
 use Rattle.sets.proofs.Bools.{and-in, and-left, and-right}
-use Rattle.records.specs.Limits.{maxBadges, maxTicks, withinLimits, wordsFor}
+use Rattle.records.specs.Limits.{maxBadges, maxTicks, withinLimits, wordsFor, maxWords}
 
 -- n and T are within their limits
 pub record Limits (n T : ℕ) : Type 0 where
@@ -33,5 +33,5 @@ limits-in {n} {T} l =
     and-in _ _ (and-in _ _ (and-in _ _ (le-leb _ _ (l .some)) (le-leb _ _ (l .few))) (le-leb _ _ (l .long))) (le-leb _ _ (l .short))
 
 -- within the limits a day takes at most 96 × 64 words
-pub words-most : (n T : ℕ) → Limits n T → wordsFor n T ≤ 6144
+pub words-most : (n T : ℕ) → Limits n T → wordsFor n T ≤ maxWords
 words-most n T l = mul-le-mul (l .short) (l .few)

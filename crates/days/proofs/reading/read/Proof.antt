@@ -10,7 +10,7 @@ use Rattle.records.specs.Outcomes.{success}
 use Rattle.records.specs.Verdicts.{verdictOutcome}
 use Rattle.days.specs.Days.{dayOf}
 use Rattle.days.specs.Calls.{Read}
-use Rattle.days.proofs.ReadCall.{read-refused, read-few, read-success, verdict-refused, Told, verdict-accepted, accepts, accepted-words}
+use Rattle.days.proofs.ReadCall.{read-refused, read-few, read-success, verdict-refused, Told, verdict-accepted, accepted-words}
 use Rattle.days.proofs.reading.read.Statement.{statement}
 use Rattle.days.proofs.reading.read.Tie as tie
 
@@ -32,12 +32,12 @@ mul-if1 c = omega (arith, accepted-words (told (c .before)))
 
 returns : tie.Need-returns
 returns c =
-    let t = told (c .before .before) in
-    let e = read-few _ (c .before .before .before .before .before .before .before .args .words .now) (t .records) (t .judged) (rw (t .badges, t .ticks) (c .if1 .taken)) in
+    let t = told (c .before .before) .accepts in
+    let e = read-few _ (c .before .before .before .before .before .before .before .args .words .now) (t .records) (t .accepted) (rw (t .badges, t .ticks) (c .if1 .taken)) in
     (sym (ap (λ (x : Read). x .answer) e), sym (ap (λ (x : Read). x .words) e))
 
 fill-requires : tie.Need-fill-requires
-fill-requires c κs = (accepts (told (c .before .before .before)), c .before .if1 .left)
+fill-requires c κs = (told (c .before .before .before) .accepts, c .before .if1 .left)
 
 returns-2 : tie.Need-returns-2
 returns-2 c =
@@ -49,11 +49,12 @@ same-length c = search needs
 
 returns-3 : tie.Need-returns-3
 returns-3 c =
-    let t = told (c .before .before .before .before .before .before) in
+    let w = told (c .before .before .before .before .before .before) in
+    let t = w .accepts in
     let ws = c .before .before .before .before .before .before .before .before .before .before .before .args .words .now in
-    let e = read-success _ ws (t .records) (t .judged) (rw (t .badges, t .ticks) (c .before .before .before .before .if1 .left)) in (
-      sym (ap (λ (x : Read). x .answer) e ∙ ap success (t .same)),
-      c .before .before .fill .ensures (t .records) (t .judged) ∙ ap (λ (k : ℕ). dayOf (t .records) ++ drop k ws) (ap₂ wordsFor (sym (t .badges)) (sym (t .ticks))) ∙ sym (ap (λ (x : Read). x .words) e),
+    let e = read-success _ ws (t .records) (t .accepted) (rw (t .badges, t .ticks) (c .before .before .before .before .if1 .left)) in (
+      sym (ap (λ (x : Read). x .answer) e ∙ ap success (w .same)),
+      c .before .before .fill .ensures (t .records) (t .accepted) ∙ ap (λ (k : ℕ). dayOf (t .records) ++ drop k ws) (ap₂ wordsFor (sym (t .badges)) (sym (t .ticks))) ∙ sym (ap (λ (x : Read). x .words) e),
     )
 
 pub read-spec : {M : Type 1} → statement M

@@ -6,7 +6,7 @@ use Rattle.records.specs.Verdicts.{verdictOutcome}
 use Rattle.log.specs.Buffers.{deliver}
 use Rattle.log.specs.Calls.{Tidied}
 use Rattle.log.proofs.Delivering.{writable}
-use Rattle.log.proofs.TidyCall.{tidy-delivers, WasRead, was-read, unread-refused, read-limits, read-enough, read-bytes}
+use Rattle.log.proofs.TidyCall.{tidy-delivers, WasRead, was-read, unread-refused, read-limits, read-bytes}
 use Rattle.log.proofs.tidying.tidy.Statement.{statement}
 use Rattle.log.proofs.tidying.tidy.Tie as tie
 
@@ -25,7 +25,7 @@ enum-known-badges : tie.Need-enum-known-badges
 enum-known-badges c = search needs
 
 deliver-log-requires : tie.Need-deliver-log-requires
-deliver-log-requires c κs = let w = was (c .before .before .before) in (writable (read-limits w) (omega (arith, read-enough w)), refl)
+deliver-log-requires c κs = let w = was (c .before .before .before) in (writable (read-limits w) (omega (arith, w .enough)), refl)
 
 same-length : tie.Need-same-length
 same-length c = search needs
