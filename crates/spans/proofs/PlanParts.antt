@@ -10,7 +10,7 @@ use Rattle.sets.specs.Sets.{Sub, full}
 use Rattle.sets.specs.Members.{capacity}
 use Rattle.sets.proofs.Sets.{in-full, of-full, lt-of-members}
 use Rattle.records.proofs.WithinLimits.{limits-of}
-use Rattle.cores.specs.Graphs.{LeastDegree}
+use Rattle.cores.proofs.Degrees.{LeastDegree}
 use Rattle.cores.specs.Cores.{core}
 use Rattle.cores.proofs.Cores.{core-sub, core-zero}
 use Rattle.cores.proofs.Orders.{member-pos, contains-of, score-best, shown-contain, shown-least}
