@@ -9,7 +9,7 @@ use native.Mathlib.Omega.{arith}
 use lib.ListN.{length, take, drop, length-take, length-drop, take-append-drop, drop-of-length-le}
 use lib.Seq.{take-append-seam, drop-drop}
 use Rattle.records.specs.declared.record.Record.{Record}
-use Rattle.records.specs.Limits.{maxWords}
+use Rattle.records.specs.Limits.{maxBadges, maxTicks, maxWords}
 use Rattle.records.specs.Outcomes.{Outcome, refused, success}
 use Rattle.records.specs.Judging.{judge}
 use Rattle.records.specs.Meaning.{badgesOf, ticksOf}
@@ -88,7 +88,7 @@ of-lines (c ∷ cs) (List·Memᴰ·head e) = (c, List·Memᴰ·head refl, e)
 of-lines (c ∷ cs) (List·Memᴰ·tail m) = let r = of-lines cs m in (r .0, List·Memᴰ·tail (r .1), r .2)
 
 -- No line of a report has more than 320 bytes,
-module _ (n T : ℕ) (ws : List ℕ) (few : n ≤ 64) (short : T ≤ 96) where
+module _ (n T : ℕ) (ws : List ℕ) (few : n ≤ maxBadges) (short : T ≤ maxTicks) where
   group-line-short : (c : SpanCore) → Mem c (groupsOf n T ws) → length (groupLine c) ≤ lineRoom
   group-line-short c i =
       let s = of-groups n T ws c i in
