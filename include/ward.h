@@ -1,9 +1,9 @@
-/* The ward contact engine for C, and for any language that can call C. Link with libhost.a, which `rt staticlib host` writes
+/* The ward contact engine for C, and for any language that can call C. Link with libward.a, which `rt staticlib ward` writes
  * (x86-64 Linux).
  *
  * A caller lends memory and calls. A call takes every input, does its own checking and finishes; it keeps nothing between calls,
  * allocates nothing, and may run in any number of threads at once, each with memory of its own. What each call answers and leaves in
- * the memory is proved, for every input, from the definitions that its contract cites (crates/host/src/lib.rt).
+ * the memory is proved, for every input, from the definitions that its contract cites (crates/ward/src/lib.rt).
  *
  * The caller owes:
  *   - every pointer is aligned for its type and not null, even where its length is 0;

@@ -1,11 +1,11 @@
 #!/usr/bin/env bash
 # Builds the example in C with the address sanitizer, runs it on the example log and on D1's, and compares what it prints.
-# Needs cc, and target/staticlib/libhost.a, which `rt staticlib host` writes. Says 'N passed, M failed'.
+# Needs cc, and target/staticlib/libward.a, which `rt staticlib ward` writes. Says 'N passed, M failed'.
 set -euo pipefail
 cd "$(dirname "${BASH_SOURCE[0]}")/.."
 scratch=$(mktemp -d)
 trap 'rm -rf "$scratch"' EXIT
-cc -std=c11 -Wall -Wextra -Wpedantic -Werror -fsanitize=address,undefined -Iinclude examples/groups.c target/staticlib/libhost.a -o "$scratch/groups"
+cc -std=c11 -Wall -Wextra -Wpedantic -Werror -fsanitize=address,undefined -Iinclude examples/groups.c target/staticlib/libward.a -o "$scratch/groups"
 passed=0
 failed=0
 

@@ -2,7 +2,7 @@
 # Counts the instructions of one call on each day of the benchmark, in millions: figures that repeat. One table has the report, made by the engine and
 # by each baseline; the other has the engine's plan around badges 0 and 1 in 8 parts, the core numbers of ticks 0 to 3, write, and read and tidy of the
 # day's log, '-' where a day has none, having more than 8,000 runs. Each count is of one call in a new process; buffers are not cleared between calls, and no clearing is counted.
-# Needs cargo, valgrind, and target/staticlib/libhost.a, which `rt staticlib host` writes. Its arguments are the days, all five if there are none.
+# Needs cargo, valgrind, and target/staticlib/libward.a, which `rt staticlib ward` writes. Its arguments are the days, all five if there are none.
 set -euo pipefail
 cd "$(dirname "${BASH_SOURCE[0]}")/../rust/ward"
 [ $# -gt 0 ] || set -- sparse busy dense random persistent

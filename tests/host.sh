@@ -3,10 +3,10 @@
 # Rust, every call against a second implementation, with the examples in its documentation; then the example in C, a million random calls between
 # guard pages, the measurement of the stack, and, where the listing program is built, its runs from a pipe.
 # Needs rt, cargo, and a cc with the address sanitizer, on x86-64, and nothing from a registry. What has been proved since it was changed is not
-# proved again, but for host and probes themselves. Its status is 0 where all of them pass; the first that fails ends it.
+# proved again, but for ward and probes themselves. Its status is 0 where all of them pass; the first that fails ends it.
 set -euo pipefail
 cd "$(dirname "${BASH_SOURCE[0]}")/.."
-rt staticlib host
+rt staticlib ward
 rt staticlib probes
 (cd rust/ward && cargo test --offline --release)
 bash tests/c-example.sh

@@ -1,8 +1,8 @@
 -- ward_plan meets its contract: the outcome is plan's, of the query as a set.
 use borrow.Author.Needs.{needs}
 use Rattle.groups.specs.Refusals.{writtenOutcome}
-use Rattle.host.proofs.ward_plan.Statement.{statement}
-use Rattle.host.proofs.ward_plan.Tie as tie
+use Rattle.ward.proofs.ward_plan.Statement.{statement}
+use Rattle.ward.proofs.ward_plan.Tie as tie
 
 from-word-requires : tie.Need-from-word-requires
 from-word-requires c κs = search needs

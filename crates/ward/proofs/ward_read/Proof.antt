@@ -1,9 +1,9 @@
 -- ward_read meets its contract: it leaves what read leaves, and its answer is read's.
 use mathlib.Core.Path.{ap, _∙_}
 use borrow.Author.Needs.{needs}
-use Rattle.host.specs.Answers.{readAnswer}
-use Rattle.host.proofs.ward_read.Statement.{statement}
-use Rattle.host.proofs.ward_read.Tie as tie
+use Rattle.ward.specs.Answers.{readAnswer}
+use Rattle.ward.proofs.ward_read.Statement.{statement}
+use Rattle.ward.proofs.ward_read.Tie as tie
 
 read-requires : tie.Need-read-requires
 read-requires c κs = search needs

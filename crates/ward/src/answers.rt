@@ -3,7 +3,7 @@ ghost use mathlib.Core.Path.{_≡_};
 ghost use Rattle.records.specs.Verdicts.{verdictOutcome};
 ghost use Rattle.log.specs.Calls as log;
 ghost use Rattle.groups.specs.Refusals as groups;
-ghost use Rattle.host.specs.Answers.{readAnswer, writtenAnswer};
+ghost use Rattle.ward.specs.Answers.{readAnswer, writtenAnswer};
 
 // A refusal, of whichever call.
 fn refused(refusal: groups::Refusal) -> [u64; 5]

@@ -1,9 +1,9 @@
 -- ward_core_numbers meets its contract: it leaves what core_numbers leaves, and its answer is that call's.
 use mathlib.Core.Path.{ap, _∙_}
 use borrow.Author.Needs.{needs}
-use Rattle.host.specs.Answers.{writtenAnswer}
-use Rattle.host.proofs.ward_core_numbers.Statement.{statement}
-use Rattle.host.proofs.ward_core_numbers.Tie as tie
+use Rattle.ward.specs.Answers.{writtenAnswer}
+use Rattle.ward.proofs.ward_core_numbers.Statement.{statement}
+use Rattle.ward.proofs.ward_core_numbers.Tie as tie
 
 core-numbers-requires : tie.Need-core-numbers-requires
 core-numbers-requires c κs = search needs

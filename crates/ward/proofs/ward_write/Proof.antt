@@ -1,9 +1,9 @@
 -- ward_write meets its contract: it leaves what write leaves, and its answer is write's.
 use mathlib.Core.Path.{ap, _∙_}
 use borrow.Author.Needs.{needs}
-use Rattle.host.specs.Answers.{writtenAnswer}
-use Rattle.host.proofs.ward_write.Statement.{statement}
-use Rattle.host.proofs.ward_write.Tie as tie
+use Rattle.ward.specs.Answers.{writtenAnswer}
+use Rattle.ward.proofs.ward_write.Statement.{statement}
+use Rattle.ward.proofs.ward_write.Tie as tie
 
 write-requires : tie.Need-write-requires
 write-requires c κs = search needs

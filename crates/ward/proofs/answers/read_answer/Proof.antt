@@ -1,7 +1,7 @@
 -- read_answer meets its contract: a refusal has its number and offset, and success its values.
 use borrow.Author.Needs.{needs}
-use Rattle.host.proofs.answers.read_answer.Statement.{statement}
-use Rattle.host.proofs.answers.read_answer.Tie as tie
+use Rattle.ward.proofs.answers.read_answer.Statement.{statement}
+use Rattle.ward.proofs.answers.read_answer.Tie as tie
 
 enum-known-verdict : tie.Need-enum-known-verdict
 enum-known-verdict c = search needs

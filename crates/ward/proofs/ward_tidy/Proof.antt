@@ -1,9 +1,9 @@
 -- ward_tidy meets its contract: it leaves what tidy leaves, and its answer is tidy's.
 use mathlib.Core.Path.{ap, _∙_}
 use borrow.Author.Needs.{needs}
-use Rattle.host.specs.Answers.{writtenAnswer}
-use Rattle.host.proofs.ward_tidy.Statement.{statement}
-use Rattle.host.proofs.ward_tidy.Tie as tie
+use Rattle.ward.specs.Answers.{writtenAnswer}
+use Rattle.ward.proofs.ward_tidy.Statement.{statement}
+use Rattle.ward.proofs.ward_tidy.Tie as tie
 
 tidy-requires : tie.Need-tidy-requires
 tidy-requires c κs = search needs

@@ -1,9 +1,9 @@
 -- ward_report meets its contract: it leaves what report leaves, and its answer is report's.
 use mathlib.Core.Path.{ap, _∙_}
 use borrow.Author.Needs.{needs}
-use Rattle.host.specs.Answers.{writtenAnswer}
-use Rattle.host.proofs.ward_report.Statement.{statement}
-use Rattle.host.proofs.ward_report.Tie as tie
+use Rattle.ward.specs.Answers.{writtenAnswer}
+use Rattle.ward.proofs.ward_report.Statement.{statement}
+use Rattle.ward.proofs.ward_report.Tie as tie
 
 report-requires : tie.Need-report-requires
 report-requires c κs = search needs

@@ -5,7 +5,7 @@ use Prim.Native.Nat.{ℕ}
 use Rattle.records.specs.Outcomes.{Outcome}
 use Rattle.groups.specs.Calls.{Planned}
 use Rattle.groups.specs.ShiftPlans.{PlanShown}
-use Rattle.host.specs.Answers.{writtenAnswer}
+use Rattle.ward.specs.Answers.{writtenAnswer}
 
 pub record PlanAnswered (n T : ℕ) (ws : List ℕ) (query h : ℕ) (lent answer left : List ℕ) : Type 0 where
   pub outcome : Outcome ℕ
