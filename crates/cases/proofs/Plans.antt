@@ -14,7 +14,7 @@ use Rattle.cuts.specs.Cuttings.{Cutting, total, IsBest}
 use Rattle.cuts.specs.Sums.{bestEnds}
 use Rattle.cuts.proofs.Sums.{best-ends}
 use Rattle.spans.specs.Plans.{scoreOn, isParts}
-use Rattle.groups.specs.Calls.{Planned, planOf}
+use Rattle.groups.specs.Calls.{planOf}
 use Rattle.cases.specs.Rows.{OnlyPlan, AllBestEnds}
 use Rattle.cases.proofs.Cuttings.{cuttings, withSum, in-cuttings, of-cuttings, in-with-sum, of-with-sum}
 

@@ -7,13 +7,12 @@ use native.Mathlib.Numerals.{add-one}
 use native.Mathlib.Omega.{arith}
 use lib.Dec.{leb, ltb}
 use lib.ListN.{length, getD, take, length-append}
-use lib.Seq.{length-paste}
 use borrow.Author.Tests.{le-leb, leb-true}
 use Rattle.sets.specs.Bools.{_and_}
 use Rattle.sets.specs.Tables.{concatBelow, keepIf}
 use Rattle.sets.proofs.Concat.{concat-nil, keep-nil, keep-all, keep-le, concat-from}
 use Rattle.log.specs.Buffers.{place}
-use Rattle.log.proofs.Delivering.{overwrite-paste, place-fits, take-place}
+use Rattle.log.proofs.Delivering.{length-place, take-place}
 use Rattle.spans.specs.SpanCores.{SpanCore}
 use Rattle.spans.specs.Encoding.{encodeCore, encodeCores}
 use Rattle.spans.proofs.Encoding.{encode-core-length, encode-cores-append}
@@ -47,7 +46,7 @@ module _ {mark : List ℕ} {header : ℕ} where
       let next : header + 13 * (count + 1) ≡ at + length bytes = omega arith in
       record {
         number = omega arith;
-        size = rw (e, place-fits at bytes buffer (omega arith), overwrite-paste at bytes buffer) (length-paste buffer at bytes (length bytes) (omega arith) (omega arith));
+        size = ap length e ∙ length-place at bytes buffer (omega arith);
         bytes = rw (next, e) (take-place at bytes buffer (omega arith)) ∙ ap (λ (s : List ℕ). take at buffer ++ s) (sym (append-nil bytes));
       }
 

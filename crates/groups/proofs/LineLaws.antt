@@ -16,7 +16,6 @@ use Rattle.sets.proofs.Bools.{clash}
 use Rattle.sets.proofs.Concat.{concat-same, keep-nil}
 use Rattle.records.specs.Limits.{maxTicks}
 use Rattle.spans.specs.SpanCores.{SpanCore}
-use Rattle.spans.specs.Plans.{scoreOn}
 use Rattle.spans.specs.Reports.{groupsOn, groupsFrom}
 use Rattle.spans.proofs.Maximal.{score-before-none, score-before-more, scoreAfter, after-yes, after-no, groups-on}
 use Rattle.groups.specs.Lines.{ScoresBefore, LineFound}

@@ -1,6 +1,6 @@
 -- Laws of the rows of a tick: they are those of the span of that tick alone, and a span's rows narrowed by the next tick are those of the longer
 -- span.
-use mathlib.Core.Path.{_≡_, sym, ap, ap₂, _∙_}
+use mathlib.Core.Path.{_≡_, sym, ap₂, _∙_}
 use mathlib.Core.List.{List}
 use mathlib.Core.Logic.{by-cases}
 use Prim.Native.Nat.{ℕ, suc, _*_, _≤_, _<_}

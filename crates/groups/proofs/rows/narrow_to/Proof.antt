@@ -1,6 +1,6 @@
 -- `narrow_to` meets its contract: the rows are those of the span from tick `first` to the counter's tick, whose words start at `at`.
 use mathlib.Core.Path.{sym, _∙_}
-use Prim.Native.Nat.{_+_, _-_, _*_, _≤_}
+use Prim.Native.Nat.{_+_, _-_, _≤_}
 use native.Mathlib.Omega.{arith}
 use lib.ListN.{length}
 use borrow.Author.Needs.{needs}
