@@ -3,30 +3,27 @@
 mod answers;
 mod cases;
 mod limits;
+mod printing;
 mod random_cases;
 
+use printing::print;
 use random_cases::Family;
 use random_cases::cases_of;
 use reference::Size;
 use reference::Tally;
-use reference::print;
 
 // Logs and days of a few badges and ticks, and larger ones.
-fn small() -> Size {
-    Size {
-        badges: 6,
-        ticks: 5,
-        contacts: 12,
-    }
-}
+const SMALL: Size = Size {
+    badges: 6,
+    ticks: 5,
+    contacts: 12,
+};
 
-fn larger() -> Size {
-    Size {
-        badges: 12,
-        ticks: 7,
-        contacts: 60,
-    }
-}
+const LARGER: Size = Size {
+    badges: 12,
+    ticks: 7,
+    contacts: 60,
+};
 
 // Document 01's cases without a star.
 fn at_the_limits(t: Tally) -> Tally {
@@ -37,20 +34,12 @@ fn at_the_limits(t: Tally) -> Tally {
 
 // Random logs.
 fn random_logs(t: Tally) -> Tally {
-    let t = print(
-        t,
-        b"read: random logs",
-        cases_of(Family::Read, 1000, small()),
-    );
-    let t = print(
-        t,
-        b"tidy: random logs",
-        cases_of(Family::Tidy, 1000, small()),
-    );
+    let t = print(t, b"read: random logs", cases_of(Family::Read, 1000, SMALL));
+    let t = print(t, b"tidy: random logs", cases_of(Family::Tidy, 1000, SMALL));
     print(
         t,
         b"listing: random logs",
-        cases_of(Family::List, 300, small()),
+        cases_of(Family::List, 300, SMALL),
     )
 }
 
@@ -59,23 +48,19 @@ fn random_days(t: Tally) -> Tally {
     let t = print(
         t,
         b"write: random days",
-        cases_of(Family::Write, 300, larger()),
+        cases_of(Family::Write, 300, LARGER),
     );
     let t = print(
         t,
         b"core numbers: random days",
-        cases_of(Family::CoreNumbers, 300, larger()),
+        cases_of(Family::CoreNumbers, 300, LARGER),
     );
     let t = print(
         t,
         b"report: random days",
-        cases_of(Family::Report, 100, larger()),
+        cases_of(Family::Report, 100, LARGER),
     );
-    print(
-        t,
-        b"plan: random days",
-        cases_of(Family::Plan, 100, larger()),
-    )
+    print(t, b"plan: random days", cases_of(Family::Plan, 100, LARGER))
 }
 
 fn main() {

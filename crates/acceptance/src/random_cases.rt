@@ -71,9 +71,7 @@ fn words_case(family: Family, words: &[u64], day: Verdict, state: u64) -> bool {
 // A case from a log.
 fn is_right(family: Family, random: Bytes, state: u64) -> bool {
     match family {
-        Family::Read => log_case(family, damaged(random, state)),
-        Family::Tidy => log_case(family, damaged(random, state)),
-        Family::List => log_case(family, damaged(random, state)),
+        Family::Read | Family::Tidy | Family::List => log_case(family, damaged(random, state)),
         _ => day_case(family, random, state),
     }
 }

@@ -24,7 +24,7 @@ further =
     read d1Log (sevens 13) (accepted 4 3 4) (d1Words ++ 7 ∷ [])
     ∷ read d1Log (sevens 11) (refused 8 0) (sevens 11)
     -- one byte alone, a mark alone, and an ED first
-    ∷ read (66 ∷ []) (sevens 12) (refused 1 0) (sevens 12)
+    ∷ read (ascii "B") (sevens 12) (refused 1 0) (sevens 12)
     ∷ read (ascii "BH") (sevens 12) (refused 1 0) (sevens 12)
     ∷ read (ED 0) (sevens 12) (refused 2 0) (sevens 12)
     -- "n 65 or T 97: 3."

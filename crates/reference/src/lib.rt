@@ -34,7 +34,6 @@ pub use random_logs::random_log;
 pub use reports::report;
 pub use slices::first_bytes;
 pub use tally::Tally;
-pub use tally::print;
 pub use tidying::tidy_log;
 pub use words::PATTERN;
 pub use words::word_after;
