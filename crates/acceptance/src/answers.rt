@@ -1,7 +1,7 @@
 // Whether the product's answers are as wanted: a refusal, where the verdict on a log is one, and else so many bytes.
 use reference::Verdict;
 
-// The verdict of read.
+// The answer of read.
 pub(crate) fn reads_as(got: log::Verdict, wanted: Verdict) -> bool {
     match got {
         log::Verdict::Accepted {

@@ -12,8 +12,8 @@ use reference::PATTERN;
 use reference::ROOM;
 use reference::Verdict;
 use reference::best_plan;
+use reference::judge;
 use reference::listing;
-use reference::read;
 use reference::word_after;
 use sets::BadgeSet;
 
@@ -51,7 +51,7 @@ fn holds(buffer: &[u8], wanted: Bytes) -> bool {
 pub(crate) fn reads(log: &[u8]) -> bool {
     let mut words = lent_words();
     let got = log::read(log, &mut words);
-    let wanted = read(log, MAX_WORDS);
+    let wanted = judge(log);
     reads_as(got, wanted) & hold(&words, log, wanted)
 }
 
@@ -60,7 +60,7 @@ pub(crate) fn tidies(log: &[u8]) -> bool {
     let mut words = lent_words();
     let mut buffer = lent_bytes();
     let got = log::tidy(log, &mut words, &mut buffer);
-    let day = read(log, MAX_WORDS);
+    let day = judge(log);
     let left: &[u64] = &words;
     let wanted = reference::tidy_log(left, day.badges, day.ticks);
     writes_log(got, day, wanted.len) & hold(left, log, day) & holds(&buffer, wanted)
@@ -78,7 +78,7 @@ pub(crate) fn lists(log: &[u8]) -> bool {
     let mut words = lent_words();
     let mut buffer = lent_bytes();
     let got = text::prepare(log, &mut words, &mut buffer);
-    let day = read(log, MAX_WORDS);
+    let day = judge(log);
     let left: &[u64] = &words;
     let report: &[u8] = &buffer;
     let wanted = reference::report(left, day.badges, day.ticks);

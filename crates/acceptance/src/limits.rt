@@ -1,71 +1,121 @@
-// Document 01's cases without a star, which are those at the limits.
+// Document 01's cases that are not proved: 64 badges all in contact; n 65 or T 97; 8,000 contacts. What the second implementation gives is
+// written by hand, and the product has to agree with it.
 ghost use mathlib.Core.Path.{_≡_};
 ghost use lib.ListN.{length};
 use crate::cases;
+use check::same;
+use reference::Bytes;
+use reference::MAX_WORDS;
 use reference::Tally;
 use reference::Verdict;
+use reference::best_plan;
+use reference::core_numbers;
+use reference::first_bytes;
+use reference::judge;
+use reference::report;
 
-// The words of 64 badges, all in contact in one tick.
-fn all_in_contact() -> [u64; 64]
-    ensures { λ r. ⌜ 64 ≡ length r ⌝ }
+// The words of 64 badges that are all in contact in 96 ticks.
+fn all_in_contact() -> [u64; MAX_WORDS]
+    ensures { λ r. ⌜ 6144 ≡ length r ⌝ }
 {
-    let mut words = [0u64; 64];
-    for u in 0..64usize {
-        words[u] = 0xffff_ffff_ffff_ffff ^ (1 << u);
+    let mut words = cases::lent_words();
+    for i in 0..MAX_WORDS {
+        words[i] = 0xffff_ffff_ffff_ffff ^ (1 << (i % 64));
     }
     words
 }
 
-// "64 badges all in contact: order 63."
-pub(crate) fn all_64() -> Tally {
-    let words = all_in_contact();
+// A case that came out right or not, where the second implementation gives some bytes.
+fn with_bytes(tally: Tally, right: bool, slow: Bytes, wanted: &[u8]) -> Tally {
+    let bytes = slow.bytes;
+    tally.with_case(right & same(first_bytes(&bytes, slow.len), wanted))
+}
+
+// Every order is 63: of each badge's core on all ticks, of the one group, and of a plan of one part.
+pub(crate) fn order_63() -> Tally {
     let day = Verdict {
         number: 0,
         offset: 0,
         badges: 64,
-        ticks: 1,
+        ticks: 96,
         contacts: 0,
     };
-    let numbers = reference::core_numbers(&words, 64, 0, 0);
-    let bytes = numbers.bytes;
-    let t = Tally::none().with_case(bytes[0] == 63);
-    let t = t.with_case(cases::numbers(&words, day, 0, 0));
-    let t = t.with_case(cases::reports(&words, day));
-    t.with_case(cases::plans(&words, day, 1, 1))
+    let all = all_in_contact();
+    let words: &[u64] = &all;
+    let right = cases::numbers(words, day, 0, 95);
+    let t = with_bytes(
+        Tally::none(),
+        right,
+        core_numbers(words, 64, 0, 95),
+        &[63; 64],
+    );
+    let right = cases::reports(words, day);
+    let group: &[u8] =
+        b"RH\x40\x60GR\x3f\x00\x5f\xff\xff\xff\xff\xff\xff\xff\xffED\x01\x00\x00\x00";
+    let t = with_bytes(t, right, report(words, 64, 96), group);
+    let right = cases::plans(words, day, 1, 1);
+    let plan: &[u8] =
+        b"PH\x40\x60\x01\x01\x00\x00\x00\x00\x00\x00\x00PT\x3f\x00\x5f\xff\xff\xff\xff\xff\xff\xff\xffED\x01\x00\x00\x00";
+    with_bytes(t, right, best_plan(words, 64, 96, 1, 1, plan), plan)
 }
 
-// "n 65 or T 97: 3."
-pub(crate) fn headers() -> Tally {
-    let badges = cases::reads(b"BH\x41\x60ED\x00\x00\x00\x00");
-    let ticks = cases::reads(b"BH\x40\x61ED\x00\x00\x00\x00");
-    Tally::none().with_case(badges).with_case(ticks)
+// A log that read and tidy refuse by a number at an offset, or accept where it is 0.
+fn with_log(tally: Tally, log: &[u8], number: usize, offset: usize) -> Tally {
+    let verdict = judge(log);
+    let judged = (verdict.number == number) & (verdict.offset == offset);
+    tally
+        .with_case(judged & cases::reads(log))
+        .with_case(judged & cases::tidies(log))
 }
 
-// Byte i of a log of two badges in one tick that has 8,000 contacts, all alike.
-fn byte_of(i: usize) -> u8 {
-    if i < 4 {
-        return b"BH\x02\x01"[i];
+// n 65 or T 97: 3.
+pub(crate) fn header() -> Tally {
+    let t = with_log(Tally::none(), b"BH\x40\x60ED\x00\x00\x00\x00", 0, 0);
+    let t = with_log(t, b"BH\x41\x60ED\x00\x00\x00\x00", 3, 0);
+    with_log(t, b"BH\x40\x61ED\x00\x00\x00\x00", 3, 0)
+}
+
+// Byte i of the record after k others in a log of so many contacts: badges k % 3 and the next are in contact in tick 0 or ticks 0 to 1; then the
+// end.
+fn byte_of(k: usize, i: usize, contacts: usize) -> usize {
+    if k < contacts {
+        return match i {
+            0 => 67,
+            1 => 84,
+            2 => k % 3,
+            3 => k % 3 + 1,
+            4 => 0,
+            _ => k % 2,
+        };
     }
-    let at = (i - 4) % 6;
-    if i < 48004 {
-        return b"CT\x00\x01\x00\x00"[at];
+    match i {
+        0 => 69,
+        1 => 68,
+        2 => contacts % 256,
+        3 => contacts / 256,
+        _ => 0,
     }
-    b"ED\x40\x1f\x00\x00"[at]
 }
 
-// That log.
-fn longest() -> [u8; 48010]
-    ensures { λ r. ⌜ 48010 ≡ length r ⌝ }
+// A log of n 4 and T 3 with so many contacts, in room for 8,001.
+fn long_log(contacts: usize) -> [u8; 48016]
+    ensures { λ r. ⌜ 48016 ≡ length r ⌝ }
 {
-    let mut log = [0u8; 48010];
-    for i in 0..48010usize {
-        log[i] = byte_of(i);
+    let mut log = [0u8; 48016];
+    log[0] = b'B';
+    log[1] = b'H';
+    log[2] = 4;
+    log[3] = 3;
+    for i in 0..48012usize {
+        log[4 + i] = (byte_of(i / 6, i % 6, contacts) % 256) as u8;
     }
     log
 }
 
-// "8,000 CT pass."
+// 8,000 contacts pass, and 8,001 get 5.
 pub(crate) fn contacts() -> Tally {
-    let log = longest();
-    Tally::none().with_case(cases::reads(&log))
+    let most = long_log(8000);
+    let t = with_log(Tally::none(), first_bytes(&most, 48010), 0, 0);
+    let more = long_log(8001);
+    with_log(t, &more, 5, 48004)
 }

@@ -1,16 +1,12 @@
 // Random cases, each from a random log. Calls on words get the words of its day.
 use crate::cases;
-use reference::Bytes;
-use reference::MAX_WORDS;
 use reference::SEED;
 use reference::Size;
 use reference::Tally;
-use reference::Verdict;
-use reference::damaged;
 use reference::draw_from;
 use reference::first_bytes;
+use reference::judge;
 use reference::random_log;
-use reference::read;
 
 // What the cases of a family call.
 pub(crate) enum Family {
@@ -29,17 +25,6 @@ struct Progress {
     state: u64,
 }
 
-// A call that reads a log.
-fn log_case(family: Family, log: Bytes) -> bool {
-    let bytes = log.bytes;
-    let part = first_bytes(&bytes, log.len);
-    match family {
-        Family::Read => cases::reads(part),
-        Family::Tidy => cases::tidies(part),
-        _ => cases::lists(part),
-    }
-}
-
 // A query of two of n badges, or one, or now and then none.
 fn draw_query(n: usize, state: u64) -> u64 {
     let a = draw_from(state, n);
@@ -52,7 +37,11 @@ fn draw_query(n: usize, state: u64) -> u64 {
 }
 
 // A call on the words of a log's day, with a random span, query or number of parts.
-fn words_case(family: Family, words: &[u64], day: Verdict, state: u64) -> bool {
+fn day_case(family: Family, log: &[u8], state: u64) -> bool {
+    let mut words = cases::lent_words();
+    log::read(log, &mut words);
+    let words: &[u64] = &words;
+    let day = judge(log);
     let first = draw_from(state, day.ticks);
     let more = draw_from(first.state, day.ticks - first.number);
     match family {
@@ -69,26 +58,21 @@ fn words_case(family: Family, words: &[u64], day: Verdict, state: u64) -> bool {
 }
 
 // A case from a log.
-fn is_right(family: Family, random: Bytes, state: u64) -> bool {
+fn case(family: Family, log: &[u8], state: u64) -> bool {
     match family {
-        Family::Read | Family::Tidy | Family::List => log_case(family, damaged(random, state)),
-        _ => day_case(family, random, state),
+        Family::Read => cases::reads(log),
+        Family::Tidy => cases::tidies(log),
+        Family::List => cases::lists(log),
+        _ => day_case(family, log, state),
     }
-}
-
-// The same, from the log's words.
-fn day_case(family: Family, log: Bytes, state: u64) -> bool {
-    let bytes = log.bytes;
-    let part = first_bytes(&bytes, log.len);
-    let mut words = cases::lent_words();
-    log::read(part, &mut words);
-    words_case(family, &words, read(part, MAX_WORDS), state)
 }
 
 // One random case more.
 fn with_case(before: Progress, family: Family, most: Size) -> Progress {
     let random = random_log(most, before.state);
-    let right = is_right(family, random.log, random.state);
+    let log = random.log;
+    let bytes = log.bytes;
+    let right = case(family, first_bytes(&bytes, log.len), random.state);
     let next = draw_from(random.state, 0);
     Progress {
         tally: before.tally.with_case(right),

@@ -58,35 +58,27 @@ impl Bytes {
         self.with(mark).with(mark / 256).with(a).with(b)
     }
 
-    // A set of badges in eight bytes, the lowest first.
-    pub(crate) fn with_set(self, set: u64) -> Bytes {
-        let mut out = self;
-        let mut rest = set;
-        for _ in 0..8usize {
-            let longer = out.with((rest % 256) as usize);
-            out = longer;
-            rest /= 256;
-        }
-        out
-    }
-
     // The record of a contact.
     pub(crate) fn with_contact(self, a: usize, b: usize, first: usize, last: usize) -> Bytes {
         self.with_record(CT, a, b).with(first).with(last)
     }
 
-    // The record of a group or a part.
+    // The record of a group or a part: its order, its span, and its members in eight bytes. The header of a plan is laid out in the same way.
     pub(crate) fn with_core(
         self,
         mark: usize,
+        order: usize,
         first: usize,
         last: usize,
-        order: usize,
         members: u64,
     ) -> Bytes {
-        self.with_record(mark, order, first)
-            .with(last)
-            .with_set(members)
+        let set = members as usize;
+        let low = self.with_record(mark, order, first).with(last);
+        let low = low.with(set).with(set / 0x100).with(set / 0x1_0000);
+        let high = low.with(set / 0x100_0000).with(set / 0x1_0000_0000);
+        let high = high.with(set / 0x100_0000_0000);
+        let high = high.with(set / 0x1_0000_0000_0000);
+        high.with(set / 0x100_0000_0000_0000)
     }
 
     // The end, with the number of records before it.

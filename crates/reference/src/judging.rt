@@ -2,7 +2,7 @@
 // the header starts at 4 + 6k.
 ghost use mathlib.Core.Path.{_≡_};
 ghost use Prim.Native.Nat.{_≤_, _<_};
-ghost use Rattle.reference.specs.Answers.{Judged};
+ghost use Rattle.reference.specs.Verdicts.{Judged};
 use crate::bytes::BH;
 use crate::bytes::CT;
 use crate::bytes::ED;
@@ -10,7 +10,6 @@ use crate::limits::MAX_BADGES;
 use crate::limits::MAX_CONTACTS;
 use crate::limits::MAX_TICKS;
 use crate::slices::byte_at;
-use crate::words::words_for;
 use std::num::wrapping_sub_usize;
 
 // What judging comes to. Number 0: a log of n badges, T ticks and so many contacts. Any other number: refused, at an offset, with no values.
@@ -47,8 +46,7 @@ pub(crate) fn record_at(bytes: &[u8], at: usize) -> Record
 
 // The number by which the header of n and T in a log of so many bytes is refused, 0 where it is not.
 fn judge_header(mark: usize, n: usize, ticks: usize, len: usize) -> usize
-    ensures known { λ r. ⌜ r ≤ 3 ⌝ }
-    ensures good { λ r. ⌜ (r ≡ 0 → (n ≤ 64) × (ticks ≤ 96)) ⌝ }
+    ensures { λ r. ⌜ r ≤ 3 ⌝ }
 {
     if len < 2 {
         return 1;
@@ -59,13 +57,7 @@ fn judge_header(mark: usize, n: usize, ticks: usize, len: usize) -> usize
     if len < 4 {
         return 1;
     }
-    if MAX_BADGES < n {
-        return 3;
-    }
-    if MAX_TICKS < ticks {
-        return 3;
-    }
-    if (n == 0) | (ticks == 0) {
+    if (n == 0) | (MAX_BADGES < n) | (ticks == 0) | (MAX_TICKS < ticks) {
         return 3;
     }
     0
@@ -127,7 +119,7 @@ fn judge_last(r: Record, left: usize, contacts: usize) -> usize
 
 // The verdict by a number at an offset.
 fn refused(number: usize, offset: usize) -> Verdict
-    requires { ⌜ number ≤ 8 ⌝ }
+    requires { ⌜ number ≤ 7 ⌝ }
     ensures { λ r. ⌜ Judged (r .number) (r .badges) (r .ticks) (r .contacts) ⌝ }
 {
     Verdict {
@@ -139,8 +131,8 @@ fn refused(number: usize, offset: usize) -> Verdict
     }
 }
 
-// Read, lent so many words: the log, 8. The record after the contacts starts where a whole one ended, so that no fewer than 0 bytes are left.
-pub fn read(log: &[u8], lent: usize) -> Verdict
+// The whole log. The record after the contacts starts where a whole one ended, so that no fewer than 0 bytes are left.
+pub fn judge(log: &[u8]) -> Verdict
     ensures { λ r. ⌜ Judged (r .number) (r .badges) (r .ticks) (r .contacts) ⌝ }
 {
     let header = record_at(log, 0);
@@ -159,9 +151,6 @@ pub fn read(log: &[u8], lent: usize) -> Verdict
     }
     if number != 0 {
         return refused(number, at);
-    }
-    if lent < words_for(n, ticks) {
-        return refused(8, 0);
     }
     Verdict {
         number: 0,

@@ -26,7 +26,7 @@ fn row(words: &[u64], n: usize, first: usize, last: usize, u: usize) -> u64 {
     set
 }
 
-// One row for each badge: the pairs in contact in every tick of a span.
+// One row for each badge: the pairs in contact in every tick of a span. The rows past badge n are never looked at.
 pub(crate) fn rows(words: &[u64], n: usize, first: usize, last: usize) -> [u64; MAX_BADGES]
     ensures { λ r. ⌜ 64 ≡ length r ⌝ }
 {

@@ -24,7 +24,7 @@ fn with_part(plan: Plan, words: &[u64], n: usize, query: u64, last: usize) -> Pl
     let core = highest(rows(words, n, first, last), n, query);
     let bytes = plan.bytes;
     Plan {
-        bytes: bytes.with_core(PT, first, last, core.order, core.members),
+        bytes: bytes.with_core(PT, core.order, first, last, core.members),
         next: wrapping_add_usize(last, 1),
         parts: wrapping_add_usize(plan.parts, 1),
         sum: wrapping_add_usize(plan.sum, core.order),
@@ -33,9 +33,8 @@ fn with_part(plan: Plan, words: &[u64], n: usize, query: u64, last: usize) -> Pl
 
 // The plan of a cutting, without its end. Its header says some number of parts.
 fn plan_of(words: &[u64], n: usize, ticks: usize, query: u64, parts: usize, cutting: u64) -> Plan {
-    let header = Bytes::none().with_record(PH, n, ticks).with(parts);
     let mut plan = Plan {
-        bytes: header.with_set(query),
+        bytes: Bytes::none().with_core(PH, n, ticks, parts, query),
         next: 0,
         parts: 0,
         sum: 0,

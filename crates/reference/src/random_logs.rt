@@ -1,16 +1,17 @@
 // Random logs: pairs in either order, overlaps and repeats, and some of them damaged.
-ghost use Prim.Native.Nat.{_+_, _≤_};
+ghost use Prim.Native.Nat.{_≤_};
 use crate::bytes::BH;
 use crate::bytes::Bytes;
 use crate::random::draw_from;
 use std::num::wrapping_add_usize;
 use std::num::wrapping_sub_usize;
 
-// Of how many badges and ticks random logs are at most, and how many contacts they have fewer than.
+// Of how many badges and ticks random logs are at most, and how many contacts they have fewer than. With damage 1 some are damaged, with 0 none.
 pub struct Size {
     pub badges: usize,
     pub ticks: usize,
     pub contacts: usize,
+    pub damage: usize,
 }
 
 // A log that was drawn, and where the next draw goes on.
@@ -45,8 +46,8 @@ fn with_contact(before: RandomLog, n: usize, ticks: usize) -> RandomLog {
     }
 }
 
-// A random log. One badge alone has no contacts.
-pub fn random_log(most: Size, state: u64) -> RandomLog
+// A random log that is whole. One badge alone has no contacts.
+fn whole_log(most: Size, state: u64) -> RandomLog
     ensures { λ r. ⌜ r .log .len ≤ 4096 ⌝ }
 {
     let n = draw_from(state, most.badges);
@@ -75,8 +76,9 @@ pub fn random_log(most: Size, state: u64) -> RandomLog
 }
 
 // A log, now and then damaged: a byte is changed, or its end is cut off, or bytes follow it.
-pub fn damaged(log: Bytes, state: u64) -> Bytes
-    ensures { λ r. ⌜ r .len ≤ log .len + 1000 ⌝ }
+fn damaged(log: Bytes, state: u64) -> Bytes
+    requires { ⌜ log .len ≤ 4096 ⌝ }
+    ensures { λ r. ⌜ r .len ≤ 4096 ⌝ }
 {
     let at = draw_from(state, 1000);
     let value = draw_from(at.state, 8);
@@ -84,10 +86,28 @@ pub fn damaged(log: Bytes, state: u64) -> Bytes
     let mut bytes = log.bytes;
     let i = at.number;
     bytes[i] = value.number as u8;
-    let whole = way.number;
-    let len = match whole {
-        0 => i,
-        _ => log.len,
-    };
-    Bytes { bytes, len }
+    let cut = way.number;
+    match cut {
+        0 => Bytes { bytes, len: i },
+        _ => Bytes {
+            bytes,
+            len: log.len,
+        },
+    }
+}
+
+// A random log.
+pub fn random_log(most: Size, state: u64) -> RandomLog
+    ensures { λ r. ⌜ r .log .len ≤ 4096 ⌝ }
+{
+    let whole = whole_log(most, state);
+    let log = whole.log;
+    let damage = most.damage;
+    match damage {
+        0 => whole,
+        _ => RandomLog {
+            log: damaged(log, whole.state),
+            state: whole.state,
+        },
+    }
 }

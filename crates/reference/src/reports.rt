@@ -50,9 +50,6 @@ fn with_group(
     first: usize,
     last: usize,
 ) -> Bytes {
-    if (last < first) | (ticks <= last) {
-        return report;
-    }
     let core = highest(rows(words, n, first, last), n, 0);
     if core.order == 0 {
         return report;
@@ -60,7 +57,7 @@ fn with_group(
     if surpassed(words, n, ticks, first, last, core.order) {
         return report;
     }
-    report.with_core(GR, first, last, core.order, core.members)
+    report.with_core(GR, core.order, first, last, core.members)
 }
 
 // The report of a day's words, for a day whose report has room; no bytes for n 0, which is no day. A group has 13 bytes and the header fewer, so
@@ -73,15 +70,12 @@ pub fn report(words: &[u64], n: usize, ticks: usize) -> Bytes
     }
     let mut report = Bytes::none().with_record(RH, n, ticks);
     for place in 0..MAX_TICKS * MAX_TICKS {
-        let longer = with_group(
-            report,
-            words,
-            n,
-            ticks,
-            place / MAX_TICKS,
-            place % MAX_TICKS,
-        );
-        report = longer;
+        let first = place / MAX_TICKS;
+        let last = place % MAX_TICKS;
+        if (first <= last) & (last < ticks) {
+            let longer = with_group(report, words, n, ticks, first, last);
+            report = longer;
+        }
     }
     report.with_end(report.len / 13)
 }

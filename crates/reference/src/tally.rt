@@ -1,6 +1,7 @@
-// Counting cases.
+// Counting cases, and printing the counts of a family.
 ghost use mathlib.Core.Path.{_≡_};
 ghost use Rattle.reference.specs.Tallies.{sum, misses};
+use libc::STDOUT_FILENO;
 use std::num::wrapping_add_u64;
 
 // How many cases were run, and how many of them came out wrong.
@@ -36,4 +37,17 @@ impl Tally {
             wrong: wrapping_add_u64(self.wrong, other.wrong),
         }
     }
+}
+
+// Prints the line of a family, and adds its counts to those of the families before it.
+pub fn print(before: Tally, name: &[u8], tally: Tally) -> Tally
+    ensures { λ r. ⌜ (r .run ≡ sum (before .run) (tally .run)) × (r .wrong ≡ sum (before .wrong) (tally .wrong)) ⌝ }
+{
+    io::write_all(STDOUT_FILENO, name);
+    io::write_all(STDOUT_FILENO, b": ");
+    io::print_decimal(STDOUT_FILENO, tally.run);
+    io::write_all(STDOUT_FILENO, b" cases, ");
+    io::print_decimal(STDOUT_FILENO, tally.wrong);
+    io::write_all(STDOUT_FILENO, b" wrong\n");
+    before.plus(tally)
 }

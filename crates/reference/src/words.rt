@@ -2,7 +2,7 @@
 // looking at each of its contacts.
 ghost use mathlib.Core.Path.{_≡_};
 ghost use Prim.Native.Nat.{_≤_};
-ghost use Rattle.reference.specs.Answers.{pattern};
+ghost use Rattle.reference.specs.Verdicts.{pattern};
 use crate::bits::with;
 use crate::bytes::CT;
 use crate::judging::Record;

@@ -7,10 +7,10 @@ use Rattle.acceptance.proofs.limits.all_in_contact.Statement.{statement
 use Rattle.acceptance.proofs.limits.all_in_contact.Tie as tie
 
 abbrev Inv-loop : tie.InvT-loop
-Inv-loop words₀ u₀ words u = 64 ≡ length words
+Inv-loop words₀ i₀ words i = 6144 ≡ length words
 
 abbrev μ-loop : tie.MeasureT-loop
-μ-loop words₀ u₀ words u = 64 - u
+μ-loop words₀ i₀ words i = 6144 - i
 
 pub all-in-contact-spec : {M : Type 1} → statement M
 all-in-contact-spec =
@@ -18,6 +18,7 @@ all-in-contact-spec =
     (tie.spec
     Inv-loop
     μ-loop
+    (λ c κs. search needs)
     (λ c. search needs)
     (λ c. search needs)
     (λ c. search needs)

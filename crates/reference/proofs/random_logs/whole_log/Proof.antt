@@ -1,8 +1,8 @@
--- `random_logs::random_log` is safe, and ends.
+-- `random_logs::whole_log` is safe, and ends.
 use Prim.Native.Nat.{_-_}
 use borrow.Author.Needs.{needs}
-use Rattle.reference.proofs.random_logs.random_log.Statement.{statement}
-use Rattle.reference.proofs.random_logs.random_log.Tie as tie
+use Rattle.reference.proofs.random_logs.whole_log.Statement.{statement}
+use Rattle.reference.proofs.random_logs.whole_log.Tie as tie
 
 abbrev Inv-loop : tie.InvT-loop
 Inv-loop state others bound contacts badges ticks made₀ counter₀ end made counter = Unit
@@ -10,8 +10,8 @@ Inv-loop state others bound contacts badges ticks made₀ counter₀ end made co
 abbrev μ-loop : tie.MeasureT-loop
 μ-loop state others bound contacts badges ticks made₀ counter₀ end made counter = contacts .number - counter
 
-pub random-log-spec : {M : Type 1} → statement M
-random-log-spec =
+pub whole-log-spec : {M : Type 1} → statement M
+whole-log-spec =
     tie.close
     (tie.spec
     Inv-loop

@@ -1,13 +1,13 @@
--- What every verdict on a log is, and what words hold before a call.
+-- What every verdict on a log is, and what words hold before a call that reads one.
 use mathlib.Core.Path.{_≡_}
 use Prim.Native.Nat.{ℕ, _≤_, _<_}
 
--- a verdict: a number that a log, or too few words for its day, can be refused by; n, T and a number of contacts within the limits; and
--- none of them where it refuses
+-- a verdict: a number that a log can be refused by; n and T of a byte, and a number of contacts within its limit; and none of them where it
+-- refuses
 pub record Judged (number badges ticks contacts : ℕ) : Type 0 where
-  pub known : number ≤ 8
-  pub few-badges : badges ≤ 64
-  pub few-ticks : ticks ≤ 96
+  pub known : number ≤ 7
+  pub few-badges : badges < 256
+  pub few-ticks : ticks < 256
   pub few-contacts : contacts ≤ 8000
   pub no-values : 0 < number → (badges ≡ 0) × (ticks ≡ 0) × (contacts ≡ 0)
 

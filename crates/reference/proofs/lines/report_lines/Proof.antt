@@ -1,30 +1,26 @@
--- `lines::listing` is safe, and ends.
-use Prim.Native.Nat.{_-_}
+-- `lines::report_lines` is safe, and ends.
+use Prim.Native.Nat.{_≤_, _-_}
 use borrow.Author.Needs.{needs}
-use Rattle.reference.proofs.lines.listing.Statement.{statement}
-use Rattle.reference.proofs.lines.listing.Tie as tie
+use Rattle.reference.proofs.lines.report_lines.Statement.{statement}
+use Rattle.reference.proofs.lines.report_lines.Tie as tie
 
 abbrev Inv-loop : tie.InvT-loop
-Inv-loop bytes groups text₀ g₀ text g = Unit
+Inv-loop report groups text₀ g₀ text g = text .len ≤ 4096
 
 abbrev μ-loop : tie.MeasureT-loop
-μ-loop bytes groups text₀ g₀ text g = groups - g
+μ-loop report groups text₀ g₀ text g = groups - g
 
-pub listing-spec : {M : Type 1} → statement M
-listing-spec =
+pub report-lines-spec : {M : Type 1} → statement M
+report-lines-spec =
     tie.close
     (tie.spec
     Inv-loop
     μ-loop
     (λ c κs. search needs)
-    (λ c. search needs)
     (λ c κs. search needs)
     (λ c κs. search needs)
-    (λ c. search needs)
     (λ c κs. search needs)
-    (λ c. search needs)
     (λ c κs. search needs)
-    (λ c. search needs)
     (λ c. search needs)
     (λ c. search needs)
     (λ c. search needs)
@@ -32,5 +28,4 @@ listing-spec =
     (λ c. search needs)
     (λ c. search needs)
     (λ c. search needs)
-    (λ c κs. search needs)
     (λ c. search needs))
