@@ -1,15 +1,14 @@
 #!/usr/bin/env bash
-# The checks from the other side of the C interface. Builds the two static libraries, of the calls for C and of the probes, side by side; then runs the tests in
-# Rust, every call against a second implementation, with the examples in its documentation; then the example in C, a million random calls between
-# guard pages, the measurement of the stack, and, where the listing program is built, its runs from a pipe.
+# The checks from the other side of the C interface. Builds the two static libraries, of the calls for C and of the probes, one after the other: each build
+# writes anew what the other would read. Then runs the tests in Rust, every call against a second implementation, with the examples in its
+# documentation; then the example in C, a million random calls between guard pages, the measurement of the stack, and, where the listing program is
+# built, its runs from a pipe.
 # Needs rt, cargo, and a cc with the address sanitizer, on x86-64, and nothing from a registry. What has been proved since it was changed is not
 # proved again, but for ward and probes themselves. Its status is 0 where all of them pass; the first that fails ends it.
 set -euo pipefail
 cd "$(dirname "${BASH_SOURCE[0]}")/.."
-rt staticlib ward &
-ward=$!
+rt staticlib ward
 rt staticlib probes
-wait "$ward"
 (cd rust/ward && cargo test --offline --release)
 bash tests/c-example.sh
 bash tests/guard-pages.sh
