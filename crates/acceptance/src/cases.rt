@@ -5,6 +5,7 @@ use crate::answers::reads_as;
 use crate::answers::writes_groups;
 use crate::answers::writes_log;
 use check::same;
+use groups::Thresholds;
 use reference::Bytes;
 use reference::FILLER;
 use reference::MAX_WORDS;
@@ -105,10 +106,10 @@ pub(crate) fn numbers(words: &[u64], day: Verdict, first: usize, last: usize) ->
     writes_groups(got, day, wanted.len) & holds(&buffer, wanted)
 }
 
-// Report.
+// The plain report.
 pub(crate) fn reports(words: &[u64], day: Verdict) -> bool {
     let mut buffer = lent_bytes();
-    let got = groups::report(words, day.badges, day.ticks, &mut buffer);
+    let got = groups::report(words, day.badges, day.ticks, Thresholds::PLAIN, &mut buffer);
     let wanted = reference::report(words, day.badges, day.ticks);
     writes_groups(got, day, wanted.len) & holds(&buffer, wanted)
 }

@@ -1,10 +1,11 @@
--- The tables hold: every row, in the order of specs/Table, specs/Further and specs/Example, by computation from the definitions.
+-- The tables hold: every row, in the order of specs/Table, specs/Further, specs/Example and specs/Requests, by computation from the definitions.
 use mathlib.Core.Path.{refl}
 use mathlib.Core.List.{[], _∷_}
 use Rattle.cases.specs.Rows.{AllHold}
 use Rattle.cases.specs.Table.{starred}
 use Rattle.cases.specs.Further.{further}
 use Rattle.cases.specs.Example.{example}
+use Rattle.cases.specs.Requests.{requested}
 use Rattle.cases.proofs.Plans.{all-best, only-plan, refused-plan}
 use Rattle.cases.proofs.Tables.{none, _then_}
 use Rattle.cases.proofs.Computing.{computing}
@@ -119,4 +120,30 @@ example-holds =
     then refl
     then all-best refl refl refl
     then only-plan 4 (0 ∷ 1 ∷ 3 ∷ []) refl (all-best refl refl refl) refl
+    then none
+
+pub requested-holds : AllHold requested
+unfolding computing
+requested-holds =
+    -- thresholds: what is kept, and how it is measured
+    refl
+    then refl
+    then refl
+    then refl
+    then refl
+    then refl
+    then refl
+    then refl
+    -- 17, and its place
+    then refl
+    then refl
+    then refl
+    then refl
+    then refl
+    then refl
+    then refl
+    then refl
+    then refl
+    then refl
+    then refl
     then none

@@ -24,9 +24,10 @@ use Rattle.cuts.specs.Sums.{firstGreatest, sumWith, bestSum, endAfter, endsFrom
 use Rattle.spans.specs.Spans.{isSpan, throughout, spanNeighbours}
 use Rattle.spans.specs.SpanCores.{coreOn, hasCore}
 use Rattle.spans.specs.Reports.{asLarge, same, isMaximal, isGroup, groupsOn, groupsFrom, groupsOf}
+use Rattle.spans.specs.Thresholds.{inRange, passes, meets, kept}
 use Rattle.spans.specs.Plans.{scoreOn, membersOn, partOn, partsFrom, isQuery, isParts}
 use Rattle.spans.specs.Encoding.{encodeCore, encodeCores, reportBytes, planBytes}
-use Rattle.groups.specs.Calls.{coreNumberBytes, spanJudged, coreNumbersOf, reportOf, planJudged, planOf}
+use Rattle.groups.specs.Calls.{coreNumberBytes, spanJudged, coreNumbersOf, reportJudged, reportOf, planJudged, planOf}
 use Rattle.text.specs.Decimal.{decimalIn, decimal}
 use Rattle.text.specs.Listing.{field, headLine, memberList, groupLine, refusalLine, reportLines, judgedLines, joined, listing}
 use Rattle.promises.specs.D1.{badges, d1Words}
@@ -35,6 +36,7 @@ use Rattle.cases.specs.Rows.{Holds}
 use Rattle.cases.specs.Table.{sevens, d1Log, d1Variant, d1Report, changingLog, changingWords, emptyLog, emptyWords, equalBadges, starred}
 use Rattle.cases.specs.Further.{nestedLog, nestedWords, further}
 use Rattle.cases.specs.Example.{exampleLog, exampleWords, exampleTidy, example}
+use Rattle.cases.specs.Requests.{triple, couple, nobody, requested}
 use Rattle.cases.proofs.Cuttings.{inFront, cuttingsFrom, cuttings, withSum}
 
 -- sets and lists
@@ -49,7 +51,7 @@ log-computing = 0
 
 -- cores, cuttings, and the calls of the group part
 groups-computing : ℕ
-unfolding log-computing degree strip strips core largest coreNumber contains score total firstGreatest sumWith bestSum endAfter endsFrom bestEnds isSpan throughout spanNeighbours coreOn hasCore asLarge same isMaximal isGroup groupsOn groupsFrom groupsOf scoreOn membersOn partOn partsFrom isQuery isParts encodeCore encodeCores reportBytes planBytes coreNumberBytes spanJudged coreNumbersOf reportOf planJudged planOf
+unfolding log-computing degree strip strips core largest coreNumber contains score total firstGreatest sumWith bestSum endAfter endsFrom bestEnds isSpan throughout spanNeighbours coreOn hasCore asLarge same isMaximal isGroup groupsOn groupsFrom groupsOf inRange passes meets kept scoreOn membersOn partOn partsFrom isQuery isParts encodeCore encodeCores reportBytes planBytes coreNumberBytes spanJudged coreNumbersOf reportJudged reportOf planJudged planOf
 groups-computing = 0
 
 -- the listing
@@ -59,5 +61,5 @@ text-computing = 0
 
 -- the tables
 unfoldable pub computing : ℕ
-unfolding text-computing badges BH CT ED RH GR PH PT Holds sevens d1Log d1Words d1Variant d1Report changingLog changingWords emptyLog emptyWords equalBadges starred nestedLog nestedWords further exampleLog exampleWords exampleTidy example inFront cuttingsFrom cuttings withSum
+unfolding text-computing badges BH CT ED RH GR PH PT Holds sevens d1Log d1Words d1Variant d1Report changingLog changingWords emptyLog emptyWords equalBadges starred nestedLog nestedWords further exampleLog exampleWords exampleTidy example triple couple nobody requested inFront cuttingsFrom cuttings withSum
 computing = 0

@@ -3,6 +3,7 @@ use mathlib.Core.List.{List, [], _∷_, _++_}
 use Prim.Native.Nat.{ℕ}
 use Rattle.records.specs.Outcomes.{refused, success}
 use Rattle.sets.specs.Ascii.{ascii}
+use Rattle.spans.specs.Thresholds.{plain}
 use Rattle.promises.specs.D1.{badges, d1Words}
 use Rattle.cases.specs.RecordBytes.{BH, CT, ED, RH, GR}
 use Rattle.cases.specs.Rows.{Row, read, tidy, write, core-numbers, report, plan, listing}
@@ -64,7 +65,7 @@ further =
     ∷ core-numbers 3 2 changingWords 0 1 (sevens 3) (success 3) (0 ∷ 0 ∷ 0 ∷ [])
     -- groups come by first tick and then last tick, though this day's group of order 2 lies inside the span of the other
     ∷ read nestedLog (sevens 12) (accepted 4 3 4) nestedWords
-    ∷ report 4 3 nestedWords (sevens 36) (success 36) (RH 4 3 ++ GR 1 0 2 (badges (2 ∷ 3 ∷ [])) ++ GR 2 1 1 (badges (0 ∷ 1 ∷ 2 ∷ [])) ++ ED 2)
+    ∷ report 4 3 nestedWords plain (sevens 36) (success 36) (RH 4 3 ++ GR 1 0 2 (badges (2 ∷ 3 ∷ [])) ++ GR 2 1 1 (badges (0 ∷ 1 ∷ 2 ∷ [])) ++ ED 2)
     -- plan: 31 bytes are too few; no parts; a badge of n or more comes before too many parts, and both before 9
     ∷ plan 4 3 d1Words (badges (0 ∷ [])) 1 (sevens 31) (refused 9 0) (sevens 31)
     ∷ plan 4 3 d1Words (badges (2 ∷ [])) 0 (sevens 3) (refused 14 0) (sevens 3)

@@ -10,6 +10,7 @@ use Rattle.records.specs.Verdicts.{Values}
 use Rattle.days.specs.Calls.{readOf}
 use Rattle.log.specs.Calls.{tidyOf, writeOf}
 use Rattle.cuts.specs.Cuttings.{total, IsBest}
+use Rattle.spans.specs.declared.thresholds.Thresholds.{Thresholds}
 use Rattle.spans.specs.Plans.{scoreOn}
 use Rattle.groups.specs.Calls.{coreNumbersOf, reportOf, Planned}
 use Rattle.sets.specs.Ascii.{ascii}
@@ -23,7 +24,7 @@ pub data Row : Type 0 where
   tidy : (log words buffer : List ℕ) (answer : Outcome ℕ) (words′ buffer′ : List ℕ) → Row
   write : (n T : ℕ) (words buffer : List ℕ) (answer : Outcome ℕ) (buffer′ : List ℕ) → Row
   core-numbers : (n T : ℕ) (words : List ℕ) (first last : ℕ) (buffer : List ℕ) (answer : Outcome ℕ) (buffer′ : List ℕ) → Row
-  report : (n T : ℕ) (words buffer : List ℕ) (answer : Outcome ℕ) (buffer′ : List ℕ) → Row
+  report : (n T : ℕ) (words : List ℕ) (least : Thresholds) (buffer : List ℕ) (answer : Outcome ℕ) (buffer′ : List ℕ) → Row
   plan : (n T : ℕ) (words : List ℕ) (query h : ℕ) (buffer : List ℕ) (answer : Outcome ℕ) (buffer′ : List ℕ) → Row
   plan-ends : (n T : ℕ) (words : List ℕ) (query h sum : ℕ) (ends : List (List ℕ)) → Row
   listing : (log : List ℕ) (shown : String) → Row
@@ -47,7 +48,7 @@ Holds (read log words answer words′) = readOf log words ≡ record { answer = 
 Holds (tidy log words buffer answer words′ buffer′) = tidyOf log words buffer ≡ record { answer = answer; words = words′; buffer = buffer′ }
 Holds (write n T words buffer answer buffer′) = writeOf n T words buffer ≡ record { answer = answer; buffer = buffer′ }
 Holds (core-numbers n T words first last buffer answer buffer′) = coreNumbersOf n T words first last buffer ≡ record { answer = answer; buffer = buffer′ }
-Holds (report n T words buffer answer buffer′) = reportOf n T words buffer ≡ record { answer = answer; buffer = buffer′ }
+Holds (report n T words least buffer answer buffer′) = reportOf n T words least buffer ≡ record { answer = answer; buffer = buffer′ }
 Holds (plan n T words query h buffer answer buffer′) = OnlyPlan n T words query h buffer answer buffer′
 Holds (plan-ends n T words query h sum ends) = AllBestEnds n T words query h sum ends
 Holds (listing log shown) = listed log ≡ ascii shown

@@ -13,9 +13,12 @@ use Rattle.sets.specs.Tables.{concatBelow, keepIf}
 use Rattle.sets.proofs.Concat.{concat-nil, keep-nil, keep-all, keep-le, concat-from}
 use Rattle.log.specs.Buffers.{place}
 use Rattle.log.proofs.Delivering.{length-place, take-place}
+use Rattle.spans.specs.declared.thresholds.Thresholds.{Thresholds}
 use Rattle.spans.specs.SpanCores.{SpanCore}
+use Rattle.spans.specs.Thresholds.{kept}
 use Rattle.spans.specs.Encoding.{encodeCore, encodeCores}
 use Rattle.spans.proofs.Encoding.{encode-core-length, encode-cores-append}
+use Rattle.spans.proofs.KeptRecords.{kept-le, kept-append}
 use Rattle.groups.specs.Appending.{AppendsCores}
 
 module _ {mark : List ℕ} {header : ℕ} where
@@ -50,36 +53,40 @@ module _ {mark : List ℕ} {header : ℕ} where
         bytes = rw (next, e) (take-place at bytes buffer (omega arith)) ∙ ap (λ (s : List ℕ). take at buffer ++ s) (sym (append-nil bytes));
       }
 
-  -- a loop's turn: the next list
-  pub appends-more : (f : ℕ → List SpanCore) (m : ℕ) {i j k : ℕ} {x y z : List ℕ} → AppendsCores mark header (concatBelow m f) i j x y
-      → AppendsCores mark header (f m) j k y z → AppendsCores mark header (concatBelow (m + 1) f) i k x z
+  -- a loop's turn: what is kept of the next list
+  pub appends-more : (least : Thresholds) (f : ℕ → List SpanCore) (m : ℕ) {i j k : ℕ} {x y z : List ℕ} → AppendsCores mark header (kept least (concatBelow m f)) i j x y
+      → AppendsCores mark header (kept least (f m)) j k y z → AppendsCores mark header (kept least (concatBelow (m + 1) f)) i k x z
   unfolding concatBelow
-  appends-more f m e g = rw add-one (appends-then e g)
+  appends-more least f m e g = rw (add-one, kept-append least (concatBelow m f) (f m)) (appends-then e g)
 
 module _ (orders members : List ℕ) (first : ℕ) where
-  -- the record of the span that ends with a tick, whether it is kept, and the list of it where that tick is not before the first
+  -- the record of the span that ends with a tick, whether it is a group, and the list of it where that tick is not before the first
   abbrev pub spanRecord : ℕ → SpanCore
   spanRecord last = record { order = getD orders last 0; first = first; last = last; members = getD members last 0 }
 
-  abbrev pub isKept : ℕ → Bool
-  isKept last = ltb 0 (getD members last 0) and ltb (getD orders (suc last) 0) (getD orders last 0)
+  abbrev pub isGroupAt : ℕ → Bool
+  isGroupAt last = ltb 0 (getD members last 0) and ltb (getD orders (suc last) 0) (getD orders last 0)
 
   abbrev pub lineCell : ℕ → List SpanCore
-  lineCell last = keepIf (leb first last) (keepIf (isKept last) (spanRecord last ∷ []))
+  lineCell last = keepIf (leb first last) (keepIf (isGroupAt last) (spanRecord last ∷ []))
 
   -- no span ends before its first tick
   pub line-none : concatBelow first lineCell ≡ []
   line-none = concat-nil first lineCell (λ last h. keep-nil (leb first last) _ (λ e. let l : first ≤ last = leb-true _ _ e in omega arith))
 
-  -- a turn of the loop over the last ticks: the record of the span that ends with the tick, if it is kept
-  pub line-more : {mark : List ℕ} {header : ℕ} (last : ℕ) → first ≤ last → {i j k : ℕ} {x y z : List ℕ} → AppendsCores mark header (concatBelow last lineCell) i j x y
-      → AppendsCores mark header (keepIf (isKept last) (spanRecord last ∷ [])) j k y z → AppendsCores mark header (concatBelow (last + 1) lineCell) i k x z
-  line-more {mark} {header} last h {i} {j} {k} {x} {y} {z} e f =
-      appends-more lineCell last e (subst (λ (cs : List SpanCore). AppendsCores mark header cs j k y z) (sym (keep-all (leb first last) _ (le-leb _ _ h))) f)
+  -- a turn of the loop over the last ticks: the record of the span that ends with the tick, if it is a group and is kept
+  pub line-more : {mark : List ℕ} {header : ℕ} (least : Thresholds) (last : ℕ) → first ≤ last → {i j k : ℕ} {x y z : List ℕ}
+      → AppendsCores mark header (kept least (concatBelow last lineCell)) i j x y → AppendsCores mark header (kept least (keepIf (isGroupAt last) (spanRecord last ∷ []))) j k y z
+      → AppendsCores mark header (kept least (concatBelow (last + 1) lineCell)) i k x z
+  line-more {mark} {header} least last h {i} {j} {k} {x} {y} {z} e f =
+      appends-more least lineCell last e (subst (λ (cs : List SpanCore). AppendsCores mark header (kept least cs) j k y z) (sym (keep-all (leb first last) _ (le-leb _ _ h))) f)
 
   -- there is at most one record for each last tick from the first tick on
-  pub cells-le : (m : ℕ) → length (concatBelow m lineCell) ≤ m - first
-  cells-le m = concat-from lineCell first m (λ last h. keep-nil (leb first last) _ (λ e. let l : first ≤ last = leb-true _ _ e in omega arith)) (λ last h. cell-le last)
+  pub cells-le : (least : Thresholds) (m : ℕ) → length (kept least (concatBelow m lineCell)) ≤ m - first
+  cells-le least m = omega (arith, kept-le least (concatBelow m lineCell), cells-few)
     where
       cell-le : (last : ℕ) → length (lineCell last) ≤ 1
-      cell-le last = omega (arith, keep-le (leb first last) (keepIf (isKept last) (spanRecord last ∷ [])), keep-le (isKept last) (spanRecord last ∷ []))
+      cell-le last = omega (arith, keep-le (leb first last) (keepIf (isGroupAt last) (spanRecord last ∷ [])), keep-le (isGroupAt last) (spanRecord last ∷ []))
+
+      cells-few : length (concatBelow m lineCell) ≤ m - first
+      cells-few = concat-from lineCell first m (λ last h. keep-nil (leb first last) _ (λ e. let l : first ≤ last = leb-true _ _ e in omega arith)) (λ last h. cell-le last)

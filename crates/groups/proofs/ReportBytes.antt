@@ -14,31 +14,34 @@ use Rattle.records.proofs.WithinLimits.{limits-of}
 use Rattle.days.specs.Days.{LentDay}
 use Rattle.log.specs.Buffers.{place}
 use Rattle.log.proofs.Delivering.{take-place}
+use Rattle.spans.specs.declared.thresholds.Thresholds.{Thresholds}
 use Rattle.spans.specs.Reports.{groupsFrom, groupsOf}
+use Rattle.spans.specs.Thresholds.{kept}
 use Rattle.spans.specs.Encoding.{maxGroups, maxReportBytes, encodeCores, reportBytes}
+use Rattle.spans.proofs.KeptRecords.{kept-le}
 use Rattle.spans.proofs.MostGroups.{groups-before}
 use Rattle.groups.specs.Lines.{ScoresBefore, LineFound}
 use Rattle.groups.specs.Appending.{AppendsCores, lineList, LineRoom, EncodesReport}
 use Rattle.groups.proofs.Appended.{appends-none, appends-more}
 use Rattle.groups.proofs.LineLaws.{scores-none, scores-more, line-list}
 
--- Before the turn of a first tick: the groups of the spans that start before it are appended, and the orders are those of the spans that start
+-- Before the turn of a first tick: the groups that are kept of the spans that start before it are appended, and the orders are those of the spans that start
 -- one tick before it.
-pub record ReportSoFar (n T : ℕ) (ws : List ℕ) (first count : ℕ) (buffer₀ buffer orders members : List ℕ) : Type 0 where
+pub record ReportSoFar (n T : ℕ) (ws : List ℕ) (least : Thresholds) (first count : ℕ) (buffer₀ buffer orders members : List ℕ) : Type 0 where
   pub lent : LentDay n T ws
   pub high : first ≤ T
   pub room : maxReportBytes ≤ length buffer
   pub members-size : length members ≡ maxTicks
   pub before : ScoresBefore n T ws 0 first orders
-  pub appended : AppendsCores (ascii "GR") 4 (concatBelow first (groupsFrom n T ws)) 0 count buffer₀ buffer
+  pub appended : AppendsCores (ascii "GR") 4 (kept least (concatBelow first (groupsFrom n T ws))) 0 count buffer₀ buffer
 
 short : {n T : ℕ} {ws : List ℕ} → LentDay n T ws → T ≤ maxTicks
 short d = limits-of (d .limits) .short
 
-pub so-far-none : (n T : ℕ) (ws buffer : List ℕ) → LentDay n T ws → maxReportBytes ≤ length buffer
-    → ReportSoFar n T ws 0 0 buffer buffer (replicate 97 0) (replicate 96 0)
-unfolding concatBelow
-so-far-none n T ws buffer d r = record {
+pub so-far-none : (n T : ℕ) (ws : List ℕ) (least : Thresholds) (buffer : List ℕ) → LentDay n T ws → maxReportBytes ≤ length buffer
+    → ReportSoFar n T ws least 0 0 buffer buffer (replicate 97 0) (replicate 96 0)
+unfolding concatBelow kept
+so-far-none n T ws least buffer d r = record {
   lent = d;
   high = omega arith;
   room = r;
@@ -47,10 +50,10 @@ so-far-none n T ws buffer d r = record {
   appended = appends-none;
 }
 
-module _ {n T : ℕ} {ws : List ℕ} {first count : ℕ} {buffer₀ buffer orders members : List ℕ} (s : ReportSoFar n T ws first count buffer₀ buffer orders members) where
+module _ {n T : ℕ} {ws : List ℕ} {least : Thresholds} {first count : ℕ} {buffer₀ buffer orders members : List ℕ} (s : ReportSoFar n T ws least first count buffer₀ buffer orders members) where
   -- so far there are so few that one more for each last tick has room
   so-far-few : count + (T - first) ≤ maxGroups
-  so-far-few = omega (arith, s .appended .number, groups-before n T ws first (s .high) (short (s .lent)))
+  so-far-few = omega (arith, s .appended .number, kept-le least (concatBelow first (groupsFrom n T ws)), groups-before n T ws first (s .high) (short (s .lent)))
 
   pub so-far-count : count ≤ maxGroups
   so-far-count = omega (arith, so-far-few)
@@ -67,10 +70,10 @@ module _ {n T : ℕ} {ws : List ℕ} {first count : ℕ} {buffer₀ buffer order
           room = omega (arith, s .room, so-far-few);
         }
 
-    pub so-far-next : {count′ : ℕ} {buffer′ : List ℕ} → AppendsCores (ascii "GR") 4 (lineList orders′ members′ first T) count count′ buffer buffer′
-        → ReportSoFar n T ws (first + 1) count′ buffer₀ buffer′ orders′ members′
+    pub so-far-next : {count′ : ℕ} {buffer′ : List ℕ} → AppendsCores (ascii "GR") 4 (kept least (lineList orders′ members′ first T)) count count′ buffer buffer′
+        → ReportSoFar n T ws least (first + 1) count′ buffer₀ buffer′ orders′ members′
     so-far-next {count′} {buffer′} a =
-        let b : AppendsCores (ascii "GR") 4 (groupsFrom n T ws first) count count′ buffer buffer′ = rw (line-list (s .before) c) at a in
+        let b : AppendsCores (ascii "GR") 4 (kept least (groupsFrom n T ws first)) count count′ buffer buffer′ = rw (line-list (s .before) c) at a in
         let e : first + 1 ≡ suc first = omega arith in
         record {
           lent = s .lent;
@@ -78,18 +81,19 @@ module _ {n T : ℕ} {ws : List ℕ} {first count : ℕ} {buffer₀ buffer order
           room = omega (arith, s .room, a .size);
           members-size = c .members-size;
           before = rw e (scores-more (s .before) c);
-          appended = appends-more (groupsFrom n T ws) first (s .appended) b;
+          appended = appends-more least (groupsFrom n T ws) first (s .appended) b;
         }
 
 -- the header and the end make it a report
-pub so-far-end : {n T : ℕ} {ws : List ℕ} {first count : ℕ} {buffer₀ buffer orders members : List ℕ} (given left : List ℕ)
-    → ReportSoFar n T ws first count buffer₀ buffer orders members → T ≤ first → 4 ≤ length given → buffer₀ ≡ place 0 (ascii "RH" ++ (n ∷ T ∷ [])) given
-    → left ≡ place (4 + 13 * count) (encode (End count)) buffer → EncodesReport n T ws count left
+pub so-far-end : {n T : ℕ} {ws : List ℕ} {least : Thresholds} {first count : ℕ} {buffer₀ buffer orders members : List ℕ} (given left : List ℕ)
+    → ReportSoFar n T ws least first count buffer₀ buffer orders members → T ≤ first → 4 ≤ length given → buffer₀ ≡ place 0 (ascii "RH" ++ (n ∷ T ∷ [])) given
+    → left ≡ place (4 + 13 * count) (encode (End count)) buffer → EncodesReport n T ws least count left
 unfolding groupsOf reportBytes
-so-far-end {n} {T} {ws} {first} {count} {buffer₀} {buffer} given left s h l e f =
+so-far-end {n} {T} {ws} {least} {first} {count} {buffer₀} {buffer} given left s h l e f =
+    let groups = kept least (concatBelow T (groupsFrom n T ws)) in
     let q : first ≡ T = omega (arith, s .high) in
-    let a : AppendsCores (ascii "GR") 4 (concatBelow T (groupsFrom n T ws)) 0 count buffer₀ buffer = rw q at (s .appended) in
-    let c : count ≡ length (concatBelow T (groupsFrom n T ws)) = omega (arith, a .number) in
+    let a : AppendsCores (ascii "GR") 4 groups 0 count buffer₀ buffer = rw q at (s .appended) in
+    let c : count ≡ length groups = omega (arith, a .number) in
     let m : 4 + 13 * count + length (encode (End count)) ≡ 10 + 13 * count = omega (arith, length-encode (End count)) in
     let k : 10 + 13 * count ≤ length buffer = omega (arith, s .room, so-far-count s) in
     let head : take 4 buffer₀ ≡ ascii "RH" ++ (n ∷ T ∷ []) = rw e (take-place 0 (ascii "RH" ++ (n ∷ T ∷ [])) given l) in
@@ -99,6 +103,6 @@ so-far-end {n} {T} {ws} {first} {count} {buffer₀} {buffer} given left s h l e 
       bytes =
           ap₂ (λ (x : ℕ) (y : List ℕ). take x y) (sym m) f
           ∙ take-place (4 + 13 * count) (encode (End count)) buffer (omega arith)
-          ∙ ap₂ _++_ (a .bytes ∙ ap (λ (x : List ℕ). x ++ encodeCores (ascii "GR") (concatBelow T (groupsFrom n T ws))) head) (ap (λ (x : ℕ). encode (End x)) c)
-          ∙ append-assoc (ascii "RH" ++ (n ∷ T ∷ [])) (encodeCores (ascii "GR") (concatBelow T (groupsFrom n T ws))) (encode (End (length (concatBelow T (groupsFrom n T ws)))));
+          ∙ ap₂ _++_ (a .bytes ∙ ap (λ (x : List ℕ). x ++ encodeCores (ascii "GR") groups) head) (ap (λ (x : ℕ). encode (End x)) c)
+          ∙ append-assoc (ascii "RH" ++ (n ∷ T ∷ [])) (encodeCores (ascii "GR") groups) (encode (End (length groups)));
     }

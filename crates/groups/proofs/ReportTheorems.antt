@@ -1,5 +1,6 @@
 -- Theorems of the report: the call's promise, as it stands in specs/GroupReports, holds; and what each of its buffers says.
 use mathlib.Core.Path.{_≡_, refl, sym, ap, _∙_}
+use mathlib.Core.Bool.{Bool, true, false}
 use mathlib.Core.List.{List, _++_}
 use mathlib.Core.Logic.{by-cases}
 use Prim.Native.Nat.{ℕ, _^_, _≤_, _<_}
@@ -8,10 +9,11 @@ use native.Mathlib.Omega.{arith}
 use lib.ListN.{length, take, drop}
 use lib.Pow.{pow-mono}
 use lib.Seq.{take-at}
+use Rattle.sets.specs.Bools.{_and_, isnt}
 use Rattle.sets.specs.Sets.{full}
 use Rattle.sets.specs.Members.{capacity}
 use Rattle.sets.proofs.Sets.{full-lt, sub-lt}
-use Rattle.records.specs.Outcomes.{Outcome, refused, success}
+use Rattle.records.specs.Outcomes.{Outcome, refused, success, refuseIf, andThen}
 use Rattle.records.proofs.Outcomes.{refused-success, success-same}
 use Rattle.records.proofs.WithinLimits.{limits-of}
 use Rattle.days.specs.Days.{LentDay}
@@ -21,15 +23,18 @@ use Rattle.log.specs.Buffers.{Delivered, deliver}
 use Rattle.log.proofs.Delivering.{deliver-refused, deliver-passed, deliver-short, deliver-fits}
 use Rattle.cores.specs.Cores.{core}
 use Rattle.cores.proofs.Cores.{core-sub}
+use Rattle.spans.specs.declared.thresholds.Thresholds.{Thresholds}
 use Rattle.spans.specs.Spans.{spanNeighbours}
-use Rattle.spans.specs.SpanCores.{coreOn}
+use Rattle.spans.specs.SpanCores.{SpanCore, coreOn}
 use Rattle.spans.specs.Reports.{groupsOf}
+use Rattle.spans.specs.Thresholds.{plain, inRange, kept}
 use Rattle.spans.specs.Encoding.{reportBytes, reportRecords}
-use Rattle.spans.specs.GroupStatement.{GroupStatement}
+use Rattle.spans.specs.GroupStatement.{GroupStatement, ReportAsked}
 use Rattle.spans.proofs.Decoding.{report-said}
 use Rattle.spans.proofs.MostGroups.{groups-few}
-use Rattle.spans.proofs.GroupLists.{of-groups, groups-stated}
-use Rattle.groups.specs.Calls.{reportOf}
+use Rattle.spans.proofs.KeptRecords.{of-kept, kept-le}
+use Rattle.spans.proofs.GroupLists.{of-groups, groups-stated, kept-plain}
+use Rattle.groups.specs.Calls.{reportJudged, reportOf}
 use Rattle.groups.specs.GroupReports.{ReportsGroups, Reported}
 
 -- the members of a core of n badges are below 2 ^ n
@@ -38,61 +43,103 @@ unfolding coreOn
 core-small n ws k first last w =
     omega (arith, sub-lt n (core (spanNeighbours n ws first last) (full n) k) (full n) (core-sub (spanNeighbours n ws first last) (full n) k) (full-lt n), pow-mono w)
 
--- the bytes of a day's report say its groups
-pub groups-said : {n T : ℕ} {ws : List ℕ} → LentDay n T ws → reportRecords (reportBytes n T (groupsOf n T ws)) ≡ groupsOf n T ws
-groups-said {n} {T} {ws} d =
-    let l = limits-of (d .limits) in
-    report-said n T (groupsOf n T ws) (λ c i. let s = of-groups n T ws c i in rw (s .members) (core-small n ws (c .order) (c .first) (c .last) (l .few))) (omega (arith, groups-few n T ws (l .short)))
+-- the records that a report keeps of a day's groups, and their bytes
+abbrev pub keptGroups : ℕ → ℕ → List ℕ → Thresholds → List SpanCore
+keptGroups n T ws least = kept least (groupsOf n T ws)
 
--- report: the refusal of the check first, and then its delivery
-module _ (n T : ℕ) (ws buffer : List ℕ) where
-  pub report-refused : (number offset : ℕ) → checkOf n T ws ≡ refused number offset → reportOf n T ws buffer ≡ record { answer = refused number offset; buffer = buffer }
+abbrev pub keptBytes : ℕ → ℕ → List ℕ → Thresholds → List ℕ
+keptBytes n T ws least = reportBytes n T (keptGroups n T ws least)
+
+-- the bytes say the records
+pub groups-said : {n T : ℕ} {ws : List ℕ} (least : Thresholds) → LentDay n T ws → reportRecords (keptBytes n T ws least) ≡ keptGroups n T ws least
+groups-said {n} {T} {ws} least d =
+    let l = limits-of (d .limits) in
+    report-said n T (keptGroups n T ws least)
+    (λ c i. let s = of-groups n T ws c (of-kept least (groupsOf n T ws) i .0) in rw (s .members) (core-small n ws (c .order) (c .first) (c .last) (l .few)))
+    (omega (arith, kept-le least (groupsOf n T ws), groups-few n T ws (l .short)))
+
+-- 17, and the bytes
+module _ (n T : ℕ) (ws : List ℕ) (least : Thresholds) where
+  pub judged-range : inRange least ≡ false → reportJudged n T ws least ≡ refused 17 0
+  unfolding reportJudged refuseIf isnt
+  judged-range e = rw e
+
+  pub judged-report : inRange least ≡ true → reportJudged n T ws least ≡ success (keptBytes n T ws least)
+  unfolding reportJudged refuseIf isnt
+  judged-report e = rw e
+
+-- report: the refusal of the check first, and then as the thresholds are judged
+module _ (n T : ℕ) (ws : List ℕ) (least : Thresholds) (buffer : List ℕ) where
+  pub report-refused : (number offset : ℕ) → checkOf n T ws ≡ refused number offset → reportOf n T ws least buffer ≡ record { answer = refused number offset; buffer = buffer }
   unfolding reportOf
   report-refused number offset e = deliver-refused _ _ buffer number offset e
 
-  pub report-passed : checkOf n T ws ≡ success tt → reportOf n T ws buffer ≡ deliver (success (reportBytes n T (groupsOf n T ws))) buffer
+  pub report-passed : checkOf n T ws ≡ success tt → reportOf n T ws least buffer ≡ deliver (reportJudged n T ws least) buffer
   unfolding reportOf
   report-passed e = deliver-passed _ _ buffer tt e
 
   module _ (d : LentDay n T ws) where
-    passes : reportOf n T ws buffer ≡ deliver (success (reportBytes n T (groupsOf n T ws))) buffer
-    passes = report-passed (check-day n T ws (d .limits) (d .enough) (d .day))
+    passes : {o : Outcome (List ℕ)} → reportJudged n T ws least ≡ o → reportOf n T ws least buffer ≡ deliver o buffer
+    passes e = report-passed (check-day n T ws (d .limits) (d .enough) (d .day)) ∙ ap (λ (o : Outcome (List ℕ)). deliver o buffer) e
 
-    pub report-succeeds : length (reportBytes n T (groupsOf n T ws)) ≤ length buffer
-        → reportOf n T ws buffer ≡ record { answer = success (length (reportBytes n T (groupsOf n T ws))); buffer = reportBytes n T (groupsOf n T ws) ++ drop (length (reportBytes n T (groupsOf n T ws))) buffer }
-    report-succeeds h = passes ∙ deliver-fits _ buffer h
+    pub report-judges : inRange least ≡ false → reportOf n T ws least buffer ≡ record { answer = refused 17 0; buffer = buffer }
+    unfolding deliver
+    report-judges e = passes (judged-range n T ws least e)
 
-    pub report-measures : length buffer < length (reportBytes n T (groupsOf n T ws)) → reportOf n T ws buffer ≡ record { answer = refused 9 0; buffer = buffer }
-    report-measures h = passes ∙ deliver-short _ buffer h
+    pub report-succeeds : inRange least ≡ true → length (keptBytes n T ws least) ≤ length buffer
+        → reportOf n T ws least buffer ≡ record { answer = success (length (keptBytes n T ws least)); buffer = keptBytes n T ws least ++ drop (length (keptBytes n T ws least)) buffer }
+    report-succeeds e h = passes (judged-report n T ws least e) ∙ deliver-fits _ buffer h
+
+    pub report-measures : inRange least ≡ true → length buffer < length (keptBytes n T ws least) → reportOf n T ws least buffer ≡ record { answer = refused 9 0; buffer = buffer }
+    report-measures e h = passes (judged-report n T ws least e) ∙ deliver-short _ buffer h
 
 -- The call keeps its promise.
-pub reports-groups : ReportsGroups reportOf groupsOf
+pub reports-groups : ReportsGroups reportOf keptGroups
 reports-groups = record {
-  stated = λ n T ws d. groups-stated n T ws d;
-  said = λ n T ws d. groups-said d;
-  succeeds = λ n T ws buffer d. report-succeeds n T ws buffer d;
-  measures = λ n T ws buffer d. report-measures n T ws buffer d;
+  stated = λ n T ws least a. groups-stated n T ws least (a .lent);
+  said = λ n T ws least a. groups-said least (a .lent);
+  succeeds = λ n T ws least buffer a. report-succeeds n T ws least buffer (a .lent) (a .range);
+  measures = λ n T ws least buffer a. report-measures n T ws least buffer (a .lent) (a .range);
+  judges = λ n T ws least buffer d. report-judges n T ws least buffer d;
 }
 
+-- "With 1, 1 and 2 it is the plain report", for every input.
+pub report-plain : (n T : ℕ) (ws buffer : List ℕ) → reportOf n T ws plain buffer ≡ deliver (andThen (checkOf n T ws) (λ x. success (reportBytes n T (groupsOf n T ws)))) buffer
+unfolding inRange _and_
+report-plain n T ws buffer = go (checkOf n T ws) refl
+  where
+    go : (o : Outcome (Unit {0})) → checkOf n T ws ≡ o → reportOf n T ws plain buffer ≡ deliver (andThen (checkOf n T ws) (λ x. success (reportBytes n T (groupsOf n T ws)))) buffer
+    go (refused a b) e = report-refused n T ws plain buffer a b e ∙ sym (deliver-refused _ _ buffer a b e)
+    go (success x) e =
+        report-passed n T ws plain buffer e
+        ∙ ap (λ (o : Outcome (List ℕ)). deliver o buffer) (judged-report n T ws plain refl ∙ ap (λ (cs : List SpanCore). success (reportBytes n T cs)) (kept-plain (check-passed n T ws e)))
+        ∙ sym (deliver-passed _ _ buffer x e)
+
 -- So whatever was lent: where the call succeeds, the bytes in front say records of which the group statement holds.
-pub reported : (n T : ℕ) (ws lent : List ℕ) (answer : Outcome ℕ) (left : List ℕ) → answer ≡ reportOf n T ws lent .answer → left ≡ reportOf n T ws lent .buffer → Reported n T ws answer left
-reported n T ws lent answer left e f = record { groups = λ size g. judged size g (checkOf n T ws) refl }
+pub reported : (n T : ℕ) (ws : List ℕ) (least : Thresholds) (lent : List ℕ) (answer : Outcome ℕ) (left : List ℕ) → answer ≡ reportOf n T ws least lent .answer → left ≡ reportOf n T ws least lent .buffer
+    → Reported n T ws least answer left
+reported n T ws least lent answer left e f = record { groups = λ size g. judged size g (checkOf n T ws) refl }
   where
     bytes : List ℕ
-    bytes = reportBytes n T (groupsOf n T ws)
+    bytes = keptBytes n T ws least
 
-    fits : (size : ℕ) → answer ≡ success size → LentDay n T ws → length bytes ≤ length lent → GroupStatement n T ws (full n) (reportRecords (take size left))
-    fits size g d h =
-        let r = report-succeeds n T ws lent d h in
-        let s : size ≡ length bytes = success-same (sym g ∙ e ∙ ap (λ (x : Delivered). x .answer) r) in
-        let l : left ≡ bytes ++ drop (length bytes) lent = f ∙ ap (λ (x : Delivered). x .buffer) r in
+    refuses : {number offset size : ℕ} → answer ≡ success size → reportOf n T ws least lent ≡ record { answer = refused number offset; buffer = lent } → ⊥
+    refuses g r = refused-success (sym (e ∙ ap (λ (x : Delivered). x .answer) r) ∙ g)
+
+    fits : (size : ℕ) → answer ≡ success size → LentDay n T ws → inRange least ≡ true → length bytes ≤ length lent → GroupStatement n T ws (full n) least (reportRecords (take size left))
+    fits size g d r h =
+        let made = report-succeeds n T ws least lent d r h in
+        let s : size ≡ length bytes = success-same (sym g ∙ e ∙ ap (λ (x : Delivered). x .answer) made) in
+        let l : left ≡ bytes ++ drop (length bytes) lent = f ∙ ap (λ (x : Delivered). x .buffer) made in
         let t : take size left ≡ bytes = rw l (take-at bytes (drop (length bytes) lent) size (sym s)) in
-        rw (t, groups-said d) (groups-stated n T ws d)
+        rw (t, groups-said least d) (groups-stated n T ws least d)
 
-    judged : (size : ℕ) → answer ≡ success size → (o : Outcome (Unit {0})) → checkOf n T ws ≡ o → GroupStatement n T ws (full n) (reportRecords (take size left))
-    judged size g (refused a b) c = absurd (refused-success (sym (e ∙ ap (λ (x : Delivered). x .answer) (report-refused n T ws lent a b c)) ∙ g))
-    judged size g (success x) c =
-        let d = check-passed n T ws c in
-        by-cases (decLt (length lent) (length bytes))
-        (λ h. absurd (refused-success (sym (e ∙ ap (λ (x : Delivered). x .answer) (report-measures n T ws lent d h)) ∙ g)))
-        (λ h. fits size g d (omega arith))
+    ranged : (size : ℕ) → answer ≡ success size → LentDay n T ws → (b : Bool) → inRange least ≡ b → GroupStatement n T ws (full n) least (reportRecords (take size left))
+    ranged size g d false r = absurd (refuses g (report-judges n T ws least lent d r))
+    ranged size g d true r = by-cases (decLt (length lent) (length bytes))
+        (λ h. absurd (refuses g (report-measures n T ws least lent d r h)))
+        (λ h. fits size g d r (omega arith))
+
+    judged : (size : ℕ) → answer ≡ success size → (o : Outcome (Unit {0})) → checkOf n T ws ≡ o → GroupStatement n T ws (full n) least (reportRecords (take size left))
+    judged size g (refused a b) c = absurd (refuses g (report-refused n T ws least lent a b c))
+    judged size g (success x) c = ranged size g (check-passed n T ws c) (inRange least) refl

@@ -8,8 +8,10 @@ use Rattle.sets.specs.Bools.{_and_}
 use Rattle.sets.specs.Members.{members}
 use Rattle.sets.specs.Tables.{concatBelow, keepIf}
 use Rattle.records.specs.Limits.{maxTicks}
+use Rattle.spans.specs.declared.thresholds.Thresholds.{Thresholds}
 use Rattle.spans.specs.SpanCores.{SpanCore}
 use Rattle.spans.specs.Reports.{groupsOf}
+use Rattle.spans.specs.Thresholds.{kept}
 use Rattle.groups.specs.declared.encoding.Shown.{Shown}
 use Rattle.spans.specs.Encoding.{maxGroups, encodeCores, reportBytes}
 
@@ -37,7 +39,7 @@ pub record LineRoom (T first count : ℕ) (orders members buffer : List ℕ) : T
   pub room : 4 + 13 * (count + (T - first)) ≤ length buffer
 
 -- a day's report in the first bytes of a buffer, and how many records it has
-pub record EncodesReport (n T : ℕ) (ws : List ℕ) (count : ℕ) (buffer : List ℕ) : Type 0 where
-  pub number : count ≡ length (groupsOf n T ws)
+pub record EncodesReport (n T : ℕ) (ws : List ℕ) (least : Thresholds) (count : ℕ) (buffer : List ℕ) : Type 0 where
+  pub number : count ≡ length (kept least (groupsOf n T ws))
   pub few : count ≤ maxGroups
-  pub bytes : take (10 + 13 * count) buffer ≡ reportBytes n T (groupsOf n T ws)
+  pub bytes : take (10 + 13 * count) buffer ≡ reportBytes n T (kept least (groupsOf n T ws))

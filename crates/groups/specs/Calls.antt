@@ -1,4 +1,4 @@
--- What the public calls answer and leave in the slices that were lent, for every input, by document 01's order.
+-- What the public calls answer and leave in the slices that were lent, for every input, by the order of documents 01 and 02.
 use mathlib.Core.List.{List}
 use mathlib.Core.Path.{_≡_}
 use Prim.Native.Nat.{ℕ, _≤_}
@@ -10,8 +10,10 @@ use Rattle.days.specs.Calls.{checkOf}
 use Rattle.log.specs.Buffers.{Delivered, deliver}
 use Rattle.cores.specs.Orders.{coreNumber}
 use Rattle.cuts.specs.Cuttings.{IsBest}
+use Rattle.spans.specs.declared.thresholds.Thresholds.{Thresholds}
 use Rattle.spans.specs.Spans.{isSpan, spanNeighbours}
 use Rattle.spans.specs.Reports.{groupsOf}
+use Rattle.spans.specs.Thresholds.{inRange, kept}
 use Rattle.spans.specs.Plans.{scoreOn, partsFrom, isQuery, isParts}
 use Rattle.spans.specs.Encoding.{reportBytes, planBytes}
 
@@ -27,9 +29,14 @@ spanJudged n T ws first last = refuseIf (isnt (isSpan T first last)) 12 0 (succe
 unfoldable pub coreNumbersOf : ℕ → ℕ → List ℕ → ℕ → ℕ → List ℕ → Delivered
 coreNumbersOf n T ws first last buffer = deliver (andThen (checkOf n T ws) (λ x. spanJudged n T ws first last)) buffer
 
--- report. "Calls on words: 10, 8, 11 first, then .. report 9."
-unfoldable pub reportOf : ℕ → ℕ → List ℕ → List ℕ → Delivered
-reportOf n T ws buffer = deliver (andThen (checkOf n T ws) (λ x. success (reportBytes n T (groupsOf n T ws)))) buffer
+-- The thresholds are judged, and then the bytes are worked out, of the groups that meet them. "17, a threshold outside its range, after 11 and
+-- before 9." Which cores are maximal is judged over all cores: "domination is judged before the filter".
+unfoldable pub reportJudged : ℕ → ℕ → List ℕ → Thresholds → Outcome (List ℕ)
+reportJudged n T ws least = refuseIf (isnt (inRange least)) 17 0 (success (reportBytes n T (kept least (groupsOf n T ws))))
+
+-- report. "Calls on words: 10, 8, 11 first, then .. report" 17, "9."
+unfoldable pub reportOf : ℕ → ℕ → List ℕ → Thresholds → List ℕ → Delivered
+reportOf n T ws least buffer = deliver (andThen (checkOf n T ws) (λ x. reportJudged n T ws least)) buffer
 
 -- The query and the number of parts are judged, and then the bytes are worked out, of the parts that a list of ends cuts. "13: the query has a
 -- badge of n or more. 14: h is 0 or above T."

@@ -1,7 +1,7 @@
 // The groups of a day: who stayed in contact with whom throughout a span of ticks. It uses what the log part guarantees of day words.
 //
-// `core_numbers` takes day words and a span to the core number of each badge, `report` takes day words to the report of the day's
-// groups, and `plan` takes day words, a query and a number of parts to the plan of the shift around the query.
+// `core_numbers` takes day words and a span to the core number of each badge, `report` takes day words and thresholds to the report of
+// the day's groups that meet them, and `plan` takes day words, a query and a number of parts to the plan of the shift around the query.
 mod answer;
 mod day;
 mod encoding;
@@ -12,9 +12,11 @@ mod refusal;
 mod reporting;
 mod rows;
 mod scoring;
+mod thresholds;
 
 pub use answer::Written;
 pub use numbers::core_numbers;
 pub use planning::plan;
 pub use refusal::Refusal;
 pub use reporting::report;
+pub use spans::Thresholds;

@@ -11,10 +11,12 @@ pub enum Refusal {
     ForeignQuery,
     // 14: h is 0 or above T.
     InvalidParts,
+    // 17: a threshold outside its range.
+    ThresholdOutOfRange,
 }
 
 impl Refusal {
-    // The number of a refusal in document 01.
+    // The number of a refusal in documents 01 and 02.
     pub fn number(self) -> u8
         ensures { λ r. ⌜ r ≡ numberOf self ⌝ }
     {
@@ -23,6 +25,7 @@ impl Refusal {
             Refusal::InvalidSpan => 12,
             Refusal::ForeignQuery => 13,
             Refusal::InvalidParts => 14,
+            Refusal::ThresholdOutOfRange => 17,
         }
     }
 
@@ -35,6 +38,7 @@ impl Refusal {
             Refusal::InvalidSpan => 0,
             Refusal::ForeignQuery => 0,
             Refusal::InvalidParts => 0,
+            Refusal::ThresholdOutOfRange => 0,
         }
     }
 }

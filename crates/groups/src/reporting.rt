@@ -8,14 +8,13 @@ ghost use Rattle.sets.specs.Bools.{_and_};
 ghost use Rattle.sets.specs.Ascii.{ascii};
 ghost use Rattle.sets.specs.Members.{members};
 ghost use Rattle.sets.specs.Tables.{keepIf};
-ghost use Rattle.records.specs.Outcomes.{success};
 ghost use Rattle.days.specs.Days.{LentDay};
 ghost use Rattle.log.specs.Buffers.{deliver};
-ghost use Rattle.spans.specs.Reports.{groupsOf};
-ghost use Rattle.spans.specs.Encoding.{maxReportBytes, reportBytes};
+ghost use Rattle.spans.specs.Thresholds.{kept};
+ghost use Rattle.spans.specs.Encoding.{maxReportBytes};
 ghost use Rattle.groups.specs.Refusals.{writtenOutcome};
 ghost use Rattle.groups.specs.Appending.{coreOf, AppendsCores, lineList, LineRoom, EncodesReport};
-ghost use Rattle.groups.specs.Calls.{reportOf};
+ghost use Rattle.groups.specs.Calls.{reportJudged, reportOf};
 ghost use Rattle.groups.specs.GroupReports.{Reported};
 use crate::answer::Written;
 use crate::answer::delivered;
@@ -24,18 +23,21 @@ use crate::encoding::Shown;
 use crate::encoding::append_record;
 use crate::lines::find_line;
 use crate::refusal::Refusal;
+use crate::thresholds::in_range;
+use crate::thresholds::meets;
 use log::Checked;
 use log::Record;
 use log::check_words;
 use log::put;
 use log::put_record;
 use sets::BadgeSet;
+use spans::Thresholds;
 
-// Appends a group's record if it has members and its order is above the next: else the span that is one tick longer at its end has a core of
-// the same order.
-fn append_group(buffer: &mut [u8], count: usize, group: Shown, next: u8) -> usize
-    requires { ⌜ 4 + 13 * count + 13 ≤ length (now buffer) ⌝ }
-    ensures { λ r. ⌜ AppendsCores (ascii "GR") 4 (keepIf (ltb 0 (members (group .members)) and ltb next (group .order)) (coreOf group ∷ [])) count r (now (buffer .entry)) (now (buffer .exit)) ⌝ }
+// Appends a group's record if it has members, its order is above the next, else the span that is one tick longer at its end has a core of the
+// same order, and it meets the thresholds.
+fn append_group(buffer: &mut [u8], count: usize, group: Shown, next: u8, least: Thresholds) -> usize
+    requires { ⌜ (4 + 13 * count + 13 ≤ length (now buffer)) × (group .first ≤ group .last) ⌝ }
+    ensures { λ r. ⌜ AppendsCores (ascii "GR") 4 (kept least (keepIf (ltb 0 (members (group .members)) and ltb next (group .order)) (coreOf group ∷ []))) count r (now (buffer .entry)) (now (buffer .exit)) ⌝ }
 {
     let members = group.members;
     if members.is_empty() {
@@ -44,10 +46,13 @@ fn append_group(buffer: &mut [u8], count: usize, group: Shown, next: u8) -> usiz
     if group.order <= next {
         return count;
     }
+    if !meets(group, least) {
+        return count;
+    }
     append_record(buffer, 4, count, b'G', b'R', group)
 }
 
-// Appends the groups of the spans that start with a tick, by last tick.
+// Appends the groups of the spans that start with a tick and meet the thresholds, by last tick.
 fn append_line(
     buffer: &mut [u8],
     count: usize,
@@ -55,9 +60,10 @@ fn append_line(
     members: &[u64],
     first: usize,
     ticks: usize,
+    least: Thresholds,
 ) -> usize
     requires { ⌜ LineRoom ticks first count (now orders) (now members) (now buffer) ⌝ }
-    ensures { λ r. ⌜ AppendsCores (ascii "GR") 4 (lineList (now (orders .entry)) (now (members .entry)) first ticks) count r (now (buffer .entry)) (now (buffer .exit)) ⌝ }
+    ensures { λ r. ⌜ AppendsCores (ascii "GR") 4 (kept least (lineList (now (orders .entry)) (now (members .entry)) first ticks)) count r (now (buffer .entry)) (now (buffer .exit)) ⌝ }
 {
     let mut so_far = count;
     for last in first..ticks {
@@ -67,16 +73,16 @@ fn append_line(
             last: last as u8,
             members: BadgeSet::from_word(members[last]),
         };
-        let appended = append_group(buffer, so_far, group, orders[last + 1]);
+        let appended = append_group(buffer, so_far, group, orders[last + 1], least);
         so_far = appended;
     }
     so_far
 }
 
-// Encodes the report of a day in a buffer that holds any report, and answers how many groups it has.
-fn encode_report(words: &[u64], day: Size, buffer: &mut [u8]) -> usize
+// Encodes the report of a day in a buffer that holds any report, and answers how many groups it keeps.
+fn encode_report(words: &[u64], day: Size, least: Thresholds, buffer: &mut [u8]) -> usize
     requires { ⌜ LentDay (day .badges) (day .ticks) (now words) × (maxReportBytes ≤ length (now buffer)) ⌝ }
-    ensures { λ r. ⌜ EncodesReport (day .badges) (day .ticks) (now (words .entry)) r (now (buffer .exit)) ⌝ }
+    ensures { λ r. ⌜ EncodesReport (day .badges) (day .ticks) (now (words .entry)) least r (now (buffer .exit)) ⌝ }
 {
     let header = [b'R', b'H', day.badges as u8, day.ticks as u8];
     put(buffer, 0, &header);
@@ -92,7 +98,7 @@ fn encode_report(words: &[u64], day: Size, buffer: &mut [u8]) -> usize
             &mut orders,
             &mut members,
         );
-        let appended = append_line(buffer, count, &orders, &members, first, day.ticks);
+        let appended = append_line(buffer, count, &orders, &members, first, day.ticks, least);
         count = appended;
     }
     put_record(
@@ -105,27 +111,42 @@ fn encode_report(words: &[u64], day: Size, buffer: &mut [u8]) -> usize
     count
 }
 
-// Puts the report of a day whose words have passed into the buffer that is lent.
-fn deliver_report(words: &[u64], badges: usize, ticks: usize, buffer: &mut [u8]) -> Written
+// Puts the report of a day whose words have passed into the buffer that is lent: judged by 17 and 9.
+fn report_day(
+    words: &[u64],
+    badges: usize,
+    ticks: usize,
+    least: Thresholds,
+    buffer: &mut [u8],
+) -> Written
     requires { ⌜ LentDay badges ticks (now words) ⌝ }
-    ensures answer { λ r. ⌜ writtenOutcome r ≡ deliver (success (reportBytes badges ticks (groupsOf badges ticks (now (words .entry))))) (now (buffer .entry)) .answer ⌝ }
-    ensures leaves { λ _. ⌜ now (buffer .exit) ≡ deliver (success (reportBytes badges ticks (groupsOf badges ticks (now (words .entry))))) (now (buffer .entry)) .buffer ⌝ }
+    ensures answer { λ r. ⌜ writtenOutcome r ≡ deliver (reportJudged badges ticks (now (words .entry)) least) (now (buffer .entry)) .answer ⌝ }
+    ensures leaves { λ _. ⌜ now (buffer .exit) ≡ deliver (reportJudged badges ticks (now (words .entry)) least) (now (buffer .entry)) .buffer ⌝ }
 {
+    if !in_range(least) {
+        return Written::Refused(Refusal::ThresholdOutOfRange);
+    }
     let mut bytes = [0u8; 60538];
-    let count = encode_report(words, Size { badges, ticks }, &mut bytes);
+    let count = encode_report(words, Size { badges, ticks }, least, &mut bytes);
     delivered(log::deliver(&bytes[..10 + 13 * count], buffer))
 }
 
-// Puts the report of a day's groups into the buffer that is lent, and answers the number of bytes. Refused by 10, 8, 11 and 9, in that order;
-// a refused call changes no byte, and bytes after the answer are never touched. The report is made once, in memory of its own, and
-// measured.
-pub fn report(words: &[u64], badges: usize, ticks: usize, buffer: &mut [u8]) -> Written
-    ensures answer { λ r. ⌜ writtenOutcome r ≡ reportOf badges ticks (now (words .entry)) (now (buffer .entry)) .answer ⌝ }
-    ensures leaves { λ _. ⌜ now (buffer .exit) ≡ reportOf badges ticks (now (words .entry)) (now (buffer .entry)) .buffer ⌝ }
-    ensures groups { λ r. ⌜ Reported badges ticks (now (words .entry)) (writtenOutcome r) (now (buffer .exit)) ⌝ }
+// Puts the report of a day's groups that meet the thresholds into the buffer that is lent, and answers the number of bytes. Refused by 10, 8, 11,
+// 17 and 9, in that order; a refused call changes no byte, and bytes after the answer are never touched. The report is made once, in memory of
+// its own, and measured.
+pub fn report(
+    words: &[u64],
+    badges: usize,
+    ticks: usize,
+    least: Thresholds,
+    buffer: &mut [u8],
+) -> Written
+    ensures answer { λ r. ⌜ writtenOutcome r ≡ reportOf badges ticks (now (words .entry)) least (now (buffer .entry)) .answer ⌝ }
+    ensures leaves { λ _. ⌜ now (buffer .exit) ≡ reportOf badges ticks (now (words .entry)) least (now (buffer .entry)) .buffer ⌝ }
+    ensures groups { λ r. ⌜ Reported badges ticks (now (words .entry)) least (writtenOutcome r) (now (buffer .exit)) ⌝ }
 {
     match check_words(words, badges, ticks) {
         Checked::Refused(refusal) => Written::Refused(Refusal::Log(refusal)),
-        Checked::Day => deliver_report(words, badges, ticks, buffer),
+        Checked::Day => report_day(words, badges, ticks, least, buffer),
     }
 }

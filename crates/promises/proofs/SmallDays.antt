@@ -21,6 +21,8 @@ use Rattle.spans.specs.Spans.{isSpan, throughout, spanNeighbours}
 use Rattle.spans.specs.Contacts.{fellows}
 use Rattle.spans.specs.SpanCores.{coreOn, hasCore}
 use Rattle.spans.specs.Reports.{asLarge, same, isMaximal, isGroup, groupsOn, groupsFrom, groupsOf}
+use Rattle.spans.specs.Thresholds.{plain, inRange, passes, meets, kept}
+use Rattle.spans.specs.GroupStatement.{ReportAsked}
 use Rattle.spans.specs.Plans.{scoreOn, partOn, partsFrom}
 use Rattle.spans.specs.PlanStatement.{sumOfOrders}
 use Rattle.promises.specs.D1.{badges, d1Words}
@@ -32,7 +34,7 @@ still = replicate 12 0
 
 -- all that is computed with
 unfoldable pub computing : ℕ
-unfolding badges d1Words still _and_ _or_ isnt all bit intersection setOf full filterIn filter sizeIn size tabulate withinLimits refuseIf andThen neighbours adjacent isTick isDay deliver checkOf degree strip strips core largest coreNumber isSpan throughout spanNeighbours coreNumberBytes spanJudged coreNumbersOf concatBelow keepIf coreOn hasCore asLarge same isMaximal isGroup groupsOn groupsFrom groupsOf isSub contains score scoreOn partOn partsFrom fellows firstGreatest sumWith bestSum endAfter endsFrom bestEnds sumOfOrders
+unfolding badges d1Words still _and_ _or_ isnt all bit intersection setOf full filterIn filter sizeIn size tabulate withinLimits refuseIf andThen neighbours adjacent isTick isDay deliver checkOf degree strip strips core largest coreNumber isSpan throughout spanNeighbours coreNumberBytes spanJudged coreNumbersOf concatBelow keepIf coreOn hasCore asLarge same isMaximal isGroup groupsOn groupsFrom groupsOf inRange passes meets kept isSub contains score scoreOn partOn partsFrom fellows firstGreatest sumWith bestSum endAfter endsFrom bestEnds sumOfOrders
 computing = 0
 
 -- both are lent days
@@ -43,3 +45,12 @@ d1-lent = record { limits = refl; enough = omega arith; day = day-of 4 3 d1Words
 pub still-lent : LentDay 4 3 still
 unfolding computing
 still-lent = record { limits = refl; enough = omega arith; day = day-of 4 3 still refl }
+
+-- of which the plain report may be asked for
+pub d1-plain : ReportAsked 4 3 d1Words plain
+unfolding computing
+d1-plain = record { lent = d1-lent; range = refl }
+
+pub still-plain : ReportAsked 4 3 still plain
+unfolding computing
+still-plain = record { lent = still-lent; range = refl }

@@ -13,7 +13,7 @@ use Rattle.sets.specs.Tables.{keepIf}
 use Rattle.sets.proofs.Bools.{all-same}
 use Rattle.sets.proofs.Concat.{concat-same}
 use Rattle.records.specs.Limits.{wordsFor}
-use Rattle.records.specs.Outcomes.{Outcome, success, andThen}
+use Rattle.records.specs.Outcomes.{Outcome, success, refuseIf, andThen}
 use Rattle.days.proofs.Days.{neighbours-append}
 use Rattle.days.proofs.Checks.{check-rest}
 use Rattle.log.specs.Buffers.{Delivered, deliver}
@@ -21,13 +21,15 @@ use Rattle.cores.proofs.Cores.{core-same}
 use Rattle.cores.proofs.Orders.{score-same}
 use Rattle.cuts.specs.Cuttings.{Cutting, IsBest, total}
 use Rattle.cuts.proofs.Cuttings.{Cuts, one, more, cuts-fit, to-cuts, total-same}
+use Rattle.spans.specs.declared.thresholds.Thresholds.{Thresholds}
 use Rattle.spans.specs.Spans.{isSpan}
 use Rattle.spans.specs.SpanCores.{SpanCore, coreOn, hasCore}
 use Rattle.spans.specs.Reports.{asLarge, same, isMaximal, isGroup, groupsOn, groupsFrom, groupsOf}
+use Rattle.spans.specs.Thresholds.{inRange, kept}
 use Rattle.spans.specs.Plans.{scoreOn, membersOn, partOn, partsFrom}
 use Rattle.spans.specs.Encoding.{reportBytes, planBytes}
 use Rattle.spans.proofs.SpanRows.{SameDay, fewer-head}
-use Rattle.groups.specs.Calls.{reportOf, planJudged, planOf, Planned}
+use Rattle.groups.specs.Calls.{reportJudged, reportOf, planJudged, planOf, Planned}
 use Rattle.groups.proofs.PlanCall.{judged-query, judged-parts, judged-plan}
 
 module _ (n T : ℕ) (xs ys : List ℕ) (f : SameDay n T xs ys) where
@@ -105,11 +107,12 @@ module _ (n T : ℕ) (xs ys : List ℕ) (f : SameDay n T xs ys) where
       named false q = judged-query n T xs query h ends q ∙ sym (judged-query n T ys query h ends q)
 
 -- Words after the first n×T make no difference to the report.
-pub report-rest : (n T : ℕ) (ws xs ys buffer : List ℕ) → length ws ≡ wordsFor n T → reportOf n T (ws ++ xs) buffer ≡ reportOf n T (ws ++ ys) buffer
-unfolding reportOf
-report-rest n T ws xs ys buffer e =
+pub report-rest : (n T : ℕ) (ws xs ys : List ℕ) (least : Thresholds) (buffer : List ℕ) → length ws ≡ wordsFor n T
+    → reportOf n T (ws ++ xs) least buffer ≡ reportOf n T (ws ++ ys) least buffer
+unfolding reportOf reportJudged
+report-rest n T ws xs ys least buffer e =
     ap (λ (o : Outcome (List ℕ)). deliver o buffer)
-    (ap₂ (λ (c : Outcome (Unit {0})) (b : List SpanCore). andThen c (λ x. success (reportBytes n T b))) (check-rest n T ws xs ys e)
+    (ap₂ (λ (c : Outcome (Unit {0})) (b : List SpanCore). andThen c (λ x. refuseIf (isnt (inRange least)) 17 0 (success (reportBytes n T (kept least b))))) (check-rest n T ws xs ys e)
     (groups-head n T (ws ++ xs) (ws ++ ys) (λ t u h k. neighbours-append n T ws xs t u e h k ∙ sym (neighbours-append n T ws ys t u e h k))))
 
 -- Nor to the plan: what may be left with the ones may be left with the others.

@@ -1,4 +1,4 @@
--- The group statement holds of the list of a day's maximal cores.
+-- The group statement holds of the records that a report keeps of the list of a day's maximal cores.
 use mathlib.Core.Path.{_≡_, refl, ap}
 use mathlib.Core.Bool.{Bool, true, false}
 use mathlib.Core.List.{List, List·Memᴰ·head, List·Memᴰ·eq-of-singleton}
@@ -10,6 +10,7 @@ use Rattle.sets.specs.Sets.{Sub, full}
 use Rattle.sets.specs.Tables.{keepIf, Pairwise, nothing}
 use Rattle.sets.proofs.Bools.{clash, and-in, and-left, and-right}
 use Rattle.sets.proofs.Sets.{sub-refl, sub-pos}
+use Rattle.sets.proofs.Size.{size-mono}
 use Rattle.sets.proofs.Concat.{in-concat, of-concat, keep-nil, in-keep, of-keep}
 use Rattle.sets.proofs.Pairwise.{pairwise-one, pairwise-concat, pairwise-keep, pairwise-two}
 use Rattle.days.specs.Days.{LentDay}
@@ -18,8 +19,11 @@ use Rattle.spans.specs.Spans.{SpanOfDay}
 use Rattle.spans.specs.Contacts.{OfOrder}
 use Rattle.spans.specs.SpanCores.{SpanCore, Mem, coreOn, hasCore}
 use Rattle.spans.specs.Reports.{isMaximal, isGroup, groupsOn, groupsFrom, groupsOf}
-use Rattle.spans.specs.GroupStatement.{Unsurpassed, Has, GroupStatement}
-use Rattle.spans.proofs.OrderSets.{order-cohesive, cohesive-order}
+use Rattle.spans.specs.declared.thresholds.Thresholds.{Thresholds}
+use Rattle.spans.specs.Thresholds.{plain, meets, kept}
+use Rattle.spans.specs.GroupStatement.{Unsurpassed, LargeEnough, Has, GroupStatement}
+use Rattle.spans.proofs.OrderSets.{order-cohesive, cohesive-order, order-many}
+use Rattle.spans.proofs.KeptRecords.{meets-in, meets-of, in-kept, of-kept, kept-pairwise, kept-all}
 use Rattle.spans.proofs.Maximal.{score-on-le, maximal-of, maximal-in, group-of, groups-on}
 
 -- What is in the list: exactly the groups of the day's spans, with the members of their cores.
@@ -119,21 +123,46 @@ groups-apart n T ws = pairwise-concat T (groupsFrom n T ws)
     (λ i j a b x y p q h. omega (arith, of-cell n T ws first i x p .1, of-cell n T ws first j y q .1, h .its-last)))
     (λ i j a b x y p q h. omega (arith, of-line n T ws i x p, of-line n T ws j y q, h .its-first))
 
+-- what a record of the list shows, order and span unsurpassed and enough for the thresholds, where it meets them; and such a record meets them
+module _ {n T : ℕ} {ws : List ℕ} (lent : LentDay n T ws) (least : Thresholds) where
+  shown-order : {c : SpanCore} → Shown n T ws c → OfOrder n ws (full n) (c .order) (c .first) (c .last) (c .members)
+  shown-order {c} s = rw (s .members) (has-order (span lent (s .rising) (s .inside)) (c .order) (group-parts n T ws _ _ _ (s .group) .1))
+
+  enough-of : (c : SpanCore) → Shown n T ws c → meets least c ≡ true → Unsurpassed n T ws (full n) (c .order) (c .first) (c .last) × LargeEnough n ws (full n) least (c .order) (c .first) (c .last)
+  enough-of c s e =
+      let m = meets-of least c e in
+      (unsurpassed-of lent (c .order) (c .first) (c .last) (s .rising) (s .inside) (s .group), record { long = m .0; high = m .1; many = (c .members, shown-order s, m .2) })
+
+  enough-in : (k first last : ℕ) → first ≤ last → last < T → LargeEnough n ws (full n) least k first last
+      → meets least (record { order = k; first = first; last = last; members = coreOn n ws k first last }) ≡ true
+  enough-in k first last m w e =
+      let s = e .many in
+      meets-in least _ (e .long) (e .high) (omega (arith, s .2, size-mono (order-sub (span lent m w) k (s .0) (s .1))))
+
 -- The group statement.
-pub groups-stated : (n T : ℕ) (ws : List ℕ) → LentDay n T ws → GroupStatement n T ws (full n) (groupsOf n T ws)
-groups-stated n T ws lent = record {
-  order = λ c i. group-parts n T ws _ _ _ (of-groups n T ws c i .group) .0;
-  span = λ c i. (of-groups n T ws c i .rising, of-groups n T ws c i .inside);
+pub groups-stated : (n T : ℕ) (ws : List ℕ) (least : Thresholds) → LentDay n T ws → GroupStatement n T ws (full n) least (kept least (groupsOf n T ws))
+groups-stated n T ws least lent = record {
+  order = λ c i. group-parts n T ws _ _ _ (shown c i .group) .0;
+  span = λ c i. (shown c i .rising, shown c i .inside);
   exactly = λ k first last l m w. (
-    λ x. let s = of-groups n T ws (x .0) (x .1) in let h = x .2 in found k first last h s,
-    λ u. (record { order = k; first = first; last = last; members = coreOn n ws k first last }, in-groups n T ws k first last m w (unsurpassed-in lent k first last l m w u), record { its-order = refl; its-first = refl; its-last = refl }),
+    λ x. let e = enough-of lent least (x .0) (shown (x .0) (x .1)) (of-kept least _ (x .1) .1) in let h = x .2 in rw (h .its-order, h .its-first, h .its-last) at e,
+    λ u. (
+      record { order = k; first = first; last = last; members = coreOn n ws k first last },
+      in-kept least _ (in-groups n T ws k first last m w (unsurpassed-in lent k first last l m w (u .0))) (enough-in lent least k first last m w (u .1)),
+      record { its-order = refl; its-first = refl; its-last = refl },
+    ),
   );
-  once = λ xs ys zs c d e. pairwise-two xs ys zs c d (rw e at (groups-apart n T ws));
-  members = λ c i. let s = of-groups n T ws c i in rw (s .members) (has-order (span lent (s .rising) (s .inside)) (c .order) (group-parts n T ws _ _ _ (s .group) .1));
-  largest = λ c t i o. let s = of-groups n T ws c i in rw (s .members) (order-sub (span lent (s .rising) (s .inside)) (c .order) t o);
+  once = λ xs ys zs c d e. pairwise-two xs ys zs c d (rw e at (kept-pairwise least _ (groups-apart n T ws)));
+  members = λ c i. shown-order lent least (shown c i);
+  largest = λ c t i o. let s = shown c i in rw (s .members) (order-sub (span lent (s .rising) (s .inside)) (c .order) t o);
 }
   where
-    found : (k first last : ℕ) {c : SpanCore} → Has c k first last → Shown n T ws c → Unsurpassed n T ws (full n) k first last
-    found k first last {c} h s =
-        let u = unsurpassed-of lent (c .order) (c .first) (c .last) (s .rising) (s .inside) (s .group) in
-        rw (h .its-order, h .its-first, h .its-last) at u
+    shown : (c : SpanCore) → Mem c (kept least (groupsOf n T ws)) → Shown n T ws c
+    shown c i = of-groups n T ws c (of-kept least (groupsOf n T ws) i .0)
+
+-- "With 1, 1 and 2 it is the plain report": every span has a tick, every group an order of 1 or more, and so two members or more.
+pub kept-plain : {n T : ℕ} {ws : List ℕ} → LentDay n T ws → kept plain (groupsOf n T ws) ≡ groupsOf n T ws
+kept-plain {n} {T} {ws} lent = kept-all plain (groupsOf n T ws) (λ c i.
+    let s = of-groups n T ws c i in
+    let p = group-parts n T ws _ _ _ (s .group) in
+    meets-in plain c (omega (arith, s .rising)) (p .0) (omega (arith, p .0, order-many (shown-order lent plain s))))

@@ -6,8 +6,9 @@ pub mod OrderSets
 -- records in bytes
 pub mod Encoding
 pub mod Decoding
--- the report: maximal cores, and the group statement
+-- the report: maximal cores, thresholds, and the group statement
 pub mod Maximal
+pub mod KeptRecords
 pub mod GroupLists
 -- the plan: parts, and the plan statement
 pub mod PlanParts

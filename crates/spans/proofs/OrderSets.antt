@@ -1,14 +1,15 @@
 -- Laws of the sets of an order on a span, which speak of contacts alone: they are the cohesive sets of the span's intersection graph.
 use mathlib.Core.Path.{_≡_, ap}
 use mathlib.Core.List.{List}
-use Prim.Native.Nat.{ℕ, _<_}
+use Prim.Native.Nat.{ℕ, suc, _≤_, _<_}
 use native.Mathlib.Nat.{le-refl}
 use native.Mathlib.Omega.{arith}
 use lib.Dec.{eqb}
-use borrow.Author.Tests.{eqb-true}
-use Rattle.sets.specs.Sets.{In, Sub, intersection, size, full}
-use Rattle.sets.proofs.Bools.{and-in, and-right, isnt-in}
-use Rattle.sets.proofs.Sets.{in-filter, of-filter, in-intersection, of-intersection-left, of-intersection-right, of-full, sub-trans, ext}
+use borrow.Author.Tests.{eqb-true, eq-eqb}
+use Rattle.sets.specs.Sets.{In, Sub, intersection, difference, only, size, full}
+use Rattle.sets.proofs.Bools.{and-in, and-left, and-right, isnt-in, isnt-of}
+use Rattle.sets.proofs.Sets.{in-filter, of-filter, in-intersection, of-intersection-left, of-intersection-right, some, in-difference, of-only, of-full, sub-trans, ext}
+use Rattle.sets.proofs.Size.{size-mono, size-without}
 use Rattle.cores.specs.Graphs.{degree, Cohesive}
 use Rattle.spans.specs.Spans.{SpanOfDay, spanNeighbours}
 use Rattle.spans.specs.Contacts.{fellows, OfOrder}
@@ -43,3 +44,15 @@ module _ {n T : ℕ} {ws : List ℕ} {first last : ℕ} (d : SpanOfDay n T ws fi
 
   pub cohesive-order : {k s : ℕ} → Sub s base → 0 < s → Cohesive (spanNeighbours n ws first last) k s → OfOrder n ws base k first last s
   cohesive-order {k} {s} h p c = record { within = h; some = p; each = λ u i. rw (fellows-degree d s (sub-trans h w) u i) (c .each u i) }
+
+-- A set of order k has more than k members: one, and its fellow members.
+pub order-many : {n : ℕ} {ws : List ℕ} {base k first last s : ℕ} → OfOrder n ws base k first last s → suc k ≤ size s
+unfolding fellows
+order-many {n} {ws} {base} {k} {first} {last} {s} o =
+    let u = some s (λ e. omega (arith, o .some)) in
+    let others : Sub (fellows n ws first last s (u .0)) (difference s (only (u .0))) = record {
+      at = λ v i.
+          let r = of-filter _ s v i in
+          in-difference s (only (u .0)) v (r .0) (λ j. isnt-of (eqb v (u .0)) (and-left _ _ (r .1)) (eq-eqb v (u .0) (of-only (u .0) v j)));
+    } in
+    omega (arith, o .each (u .0) (u .1), size-mono others, size-without s (u .0) (u .1))

@@ -1,11 +1,17 @@
--- Demand 3, first half: the group statement, over any list of records. It speaks of days, ticks, spans and badge sets alone.
+-- Demand 3, first half: the group statement, over any list of records, and which reports may be asked for. It speaks of days, ticks, spans, badge
+-- sets and thresholds alone.
+use mathlib.Core.Bool.{true}
 use mathlib.Core.List.{List, _∷_, _++_}
 use mathlib.Core.Logic.{_↔_}
 use mathlib.Core.Path.{_≡_}
 use Prim.Native.Nat.{ℕ, _≤_, _<_}
-use Rattle.sets.specs.Sets.{Sub}
+use Rattle.sets.specs.Sets.{Sub, size}
+use Rattle.days.specs.Days.{LentDay}
+use Rattle.spans.specs.declared.thresholds.Thresholds.{Thresholds}
+use Rattle.spans.specs.Spans.{spanTicks}
 use Rattle.spans.specs.Contacts.{OfOrder}
 use Rattle.spans.specs.SpanCores.{SpanCore, Mem}
+use Rattle.spans.specs.Thresholds.{inRange}
 
 -- "some non-empty badge set gives each member at least k fellow members in contact with it in every tick of the span, and no non-empty set
 -- does so for an order at least k and a span including this one, order or span being larger"
@@ -14,20 +20,33 @@ pub record Unsurpassed (n T : ℕ) (ws : List ℕ) (base k first last : ℕ) : T
   pub none : (k′ first′ last′ s : ℕ) → k ≤ k′ → first′ ≤ first → last ≤ last′ → last′ < T → OfOrder n ws base k′ first′ last′ s
       → (k′ ≡ k) × (first′ ≡ first) × (last′ ≡ last)
 
+-- what the thresholds ask of an order and a span: it is long enough, the order is high enough, and some set of this order has members enough
+pub record LargeEnough (n : ℕ) (ws : List ℕ) (base : ℕ) (least : Thresholds) (k first last : ℕ) : Type 0 where
+  pub long : least .ticks ≤ spanTicks first last
+  pub high : least .order ≤ k
+  pub many : (s : ℕ) × OfOrder n ws base k first last s × (least .members ≤ size s)
+
 -- a record of a given order and span
 pub record Has (c : SpanCore) (k first last : ℕ) : Type 0 where
   pub its-order : c .order ≡ k
   pub its-first : c .first ≡ first
   pub its-last : c .last ≡ last
 
-pub record GroupStatement (n T : ℕ) (ws : List ℕ) (base : ℕ) (groups : List SpanCore) : Type 0 where
+-- "The group statement is then about the records that pass."
+pub record GroupStatement (n T : ℕ) (ws : List ℕ) (base : ℕ) (least : Thresholds) (groups : List SpanCore) : Type 0 where
   -- every record has an order of at least 1 and a span of the day
   pub order : (c : SpanCore) → Mem c groups → 1 ≤ c .order
   pub span : (c : SpanCore) → Mem c groups → (c .first ≤ c .last) × (c .last < T)
-  -- "the report has on that span a group of order k .. exactly when" the span and order are unsurpassed,
-  pub exactly : (k first last : ℕ) → 1 ≤ k → first ≤ last → last < T → ((c : SpanCore) × Mem c groups × Has c k first last) ↔ Unsurpassed n T ws base k first last
+  -- "the report has on that span a group of order k .. exactly when" the span and order are unsurpassed, and pass,
+  pub exactly : (k first last : ℕ) → 1 ≤ k → first ≤ last → last < T
+      → ((c : SpanCore) × Mem c groups × Has c k first last) ↔ (Unsurpassed n T ws base k first last × LargeEnough n ws base least k first last)
   -- "and then just one": no two records have the same order and span
   pub once : (xs ys zs : List SpanCore) (c d : SpanCore) → groups ≡ xs ++ (c ∷ (ys ++ (d ∷ zs))) → Has c (d .order) (d .first) (d .last) → ⊥
   -- "The members shown are such a set and hold every other such set."
   pub members : (c : SpanCore) → Mem c groups → OfOrder n ws base (c .order) (c .first) (c .last) (c .members)
   pub largest : (c : SpanCore) (s : ℕ) → Mem c groups → OfOrder n ws base (c .order) (c .first) (c .last) s → Sub s (c .members)
+
+-- a lent day, and thresholds within their ranges
+pub record ReportAsked (n T : ℕ) (ws : List ℕ) (least : Thresholds) : Type 0 where
+  pub lent : LentDay n T ws
+  pub range : inRange least ≡ true

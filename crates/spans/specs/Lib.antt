@@ -5,6 +5,7 @@ pub mod Contacts
 pub mod SpanCores
 pub mod LongerSpans
 pub mod Reports
+pub mod Thresholds
 pub mod Plans
 pub mod Encoding
 pub mod GroupStatement

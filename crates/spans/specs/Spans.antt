@@ -1,7 +1,7 @@
 -- Spans of a day. "A span is a first and a last tick of the day, the first not after the last, with the ticks between; both ends count."
 use mathlib.Core.Bool.{Bool}
 use mathlib.Core.List.{List}
-use Prim.Native.Nat.{ℕ, suc, _≤_, _<_}
+use Prim.Native.Nat.{ℕ, suc, _-_, _≤_, _<_}
 use lib.Dec.{ltb, leb}
 use Rattle.sets.specs.Bools.{_and_, _or_, all}
 use Rattle.sets.specs.Sets.{setOf, full}
@@ -12,6 +12,10 @@ use Rattle.days.specs.Days.{LentDay, adjacent}
 -- first and last are a span of a day of T ticks
 unfoldable pub isSpan : ℕ → ℕ → ℕ → Bool
 isSpan T first last = leb first last and ltb last T
+
+-- how many ticks a span has
+abbrev pub spanTicks : ℕ → ℕ → ℕ
+spanTicks first last = suc last - first
 
 -- a span of a lent day
 pub record SpanOfDay (n T : ℕ) (ws : List ℕ) (first last : ℕ) : Type 0 where

@@ -22,13 +22,14 @@ use Rattle.days.proofs.Days.{day-length, neighbours-append}
 use Rattle.days.proofs.Checks.{check-passed}
 use Rattle.days.proofs.ReadCall.{read-refused, read-success}
 use Rattle.log.specs.Buffers.{Delivered}
+use Rattle.log.proofs.Delivering.{deliver-passed, deliver-fits}
 use Rattle.spans.specs.SpanCores.{SpanCore, Mem}
 use Rattle.spans.specs.Reports.{groupsOf}
 use Rattle.spans.specs.Encoding.{maxReportBytes, encodeCores, reportBytes}
 use Rattle.spans.proofs.Decoding.{decode-cores}
 use Rattle.spans.proofs.GroupLists.{of-groups}
 use Rattle.spans.proofs.MostGroups.{report-length, report-most}
-use Rattle.groups.proofs.ReportTheorems.{core-small, report-succeeds}
+use Rattle.groups.proofs.ReportTheorems.{core-small, report-plain}
 use Rattle.promises.proofs.ReadTheorems.{accepted-passes}
 use Rattle.promises.proofs.WordsAfter.{groups-head}
 use Rattle.text.specs.Listing.{reportLines, judgedLines}
@@ -72,7 +73,8 @@ module _ (log : List ℕ) (rs : List Record) (e : judge log ≡ success rs) wher
     accepted-made =
         let limits = limits-of (accepted-of 0 log rs e .limits) in
         let read = read-success log words rs e (omega (arith, words-most n T limits)) in
-        let made = report-succeeds n T (dayOf rs ++ rest) report (accepted-lent rest) (omega (arith, report-most n T (dayOf rs ++ rest) (limits .short))) in
+        let fits : length bytes ≤ length report = omega (arith, report-most n T (dayOf rs ++ rest) (limits .short)) in
+        let made = report-plain n T (dayOf rs ++ rest) report ∙ deliver-passed _ _ report tt (accepted-passes log rs rest e) ∙ deliver-fits bytes report fits in
         prepare-read log words report (valuesOf rs) (ap (λ (x : Read). x .answer) read) (dayOf rs ++ rest) (sym (ap (λ (x : Read). x .words) read))
         ∙ ap (λ (x : Delivered). record { answer = x .answer; words = dayOf rs ++ rest; report = x .buffer }) made
 

@@ -5,6 +5,7 @@ use Prim.Native.Nat.{ℕ}
 use Rattle.records.specs.Outcomes.{refused, success}
 use Rattle.records.specs.Verdicts.{Values}
 use Rattle.days.specs.Calls.{readOf}
+use Rattle.spans.specs.Thresholds.{plain}
 use Rattle.groups.specs.Calls.{reportOf}
 use Rattle.text.specs.Calls.{reported, prepareOf}
 
@@ -16,6 +17,6 @@ module _ (log words report : List ℕ) where
 
   pub prepare-read : (v : Values) → readOf log words .answer ≡ success v → (words′ : List ℕ) → words′ ≡ readOf log words .words
       → prepareOf log words report
-      ≡ record { answer = reportOf (v .badges) (v .ticks) words′ report .answer; words = words′; report = reportOf (v .badges) (v .ticks) words′ report .buffer }
+      ≡ record { answer = reportOf (v .badges) (v .ticks) words′ plain report .answer; words = words′; report = reportOf (v .badges) (v .ticks) words′ plain report .buffer }
   unfolding prepareOf reported
   prepare-read v e words′ f = rw (e, f)

@@ -6,11 +6,12 @@ use Rattle.records.specs.Outcomes.{Outcome, refused, success}
 use Rattle.records.specs.Verdicts.{Values}
 use Rattle.days.specs.Calls.{readOf}
 use Rattle.log.specs.Buffers.{Delivered}
+use Rattle.spans.specs.Thresholds.{plain}
 use Rattle.spans.specs.Encoding.{decodeCores}
 use Rattle.groups.specs.Calls.{reportOf}
 use Rattle.text.specs.Listing.{refusalLine, reportLines}
 
--- prepare: read the log into the words, and put the report of its day into the buffer
+-- prepare: read the log into the words, and put the plain report of its day into the buffer
 pub record Prepared : Type 0 where
   pub answer : Outcome ℕ
   pub words : List ℕ
@@ -18,7 +19,7 @@ pub record Prepared : Type 0 where
 
 unfoldable pub reported : Outcome Values → List ℕ → List ℕ → Delivered
 reported (refused number offset) words report = record { answer = refused number offset; buffer = report }
-reported (success v) words report = reportOf (v .badges) (v .ticks) words report
+reported (success v) words report = reportOf (v .badges) (v .ticks) words plain report
 
 unfoldable pub prepareOf : List ℕ → List ℕ → List ℕ → Prepared
 prepareOf log words report = record {

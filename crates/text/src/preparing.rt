@@ -3,6 +3,7 @@ ghost use mathlib.Core.Path.{_≡_};
 ghost use Rattle.groups.specs.Refusals.{writtenOutcome};
 ghost use Rattle.text.specs.Calls.{prepareOf};
 use groups::Refusal;
+use groups::Thresholds;
 use groups::Written;
 use groups::report;
 use log::Verdict;
@@ -22,6 +23,6 @@ pub fn prepare(log: &[u8], words: &mut [u64], buffer: &mut [u8]) -> Written
             badges,
             ticks,
             contacts: _,
-        } => report(words, badges, ticks, buffer),
+        } => report(words, badges, ticks, Thresholds::PLAIN, buffer),
     }
 }

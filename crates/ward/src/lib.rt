@@ -5,6 +5,7 @@ mod answers;
 ghost use mathlib.Core.Path.{_≡_};
 ghost use Rattle.days.specs.Calls.{readOf};
 ghost use Rattle.log.specs.Calls.{tidyOf, writeOf};
+ghost use Rattle.spans.specs.Thresholds.{plain};
 ghost use Rattle.groups.specs.Calls.{coreNumbersOf, reportOf};
 ghost use Rattle.groups.specs.GroupReports.{Reported};
 ghost use Rattle.ward.specs.Answers.{readAnswer, writtenAnswer};
@@ -12,6 +13,7 @@ ghost use Rattle.ward.specs.PlanAnswers.{PlanAnswered};
 use answers::group_answer;
 use answers::log_answer;
 use answers::read_answer;
+use groups::Thresholds;
 use sets::BadgeSet;
 
 // log::read.
@@ -69,7 +71,7 @@ pub extern "C" fn ward_core_numbers(
     *answer = group_answer(written);
 }
 
-// groups::report.
+// groups::report, the plain report.
 #[no_mangle]
 pub extern "C" fn ward_report(
     words: &[u64],
@@ -78,11 +80,11 @@ pub extern "C" fn ward_report(
     out: &mut [u8],
     answer: &mut [u64; 5],
 )
-    ensures answer { λ _. ⌜ now (answer .exit) ≡ writtenAnswer (reportOf badges ticks (now (words .entry)) (now (out .entry)) .answer) ⌝ }
-    ensures leaves { λ _. ⌜ now (out .exit) ≡ reportOf badges ticks (now (words .entry)) (now (out .entry)) .buffer ⌝ }
-    ensures groups { λ _. ⌜ Reported badges ticks (now (words .entry)) (reportOf badges ticks (now (words .entry)) (now (out .entry)) .answer) (now (out .exit)) ⌝ }
+    ensures answer { λ _. ⌜ now (answer .exit) ≡ writtenAnswer (reportOf badges ticks (now (words .entry)) plain (now (out .entry)) .answer) ⌝ }
+    ensures leaves { λ _. ⌜ now (out .exit) ≡ reportOf badges ticks (now (words .entry)) plain (now (out .entry)) .buffer ⌝ }
+    ensures groups { λ _. ⌜ Reported badges ticks (now (words .entry)) plain (reportOf badges ticks (now (words .entry)) plain (now (out .entry)) .answer) (now (out .exit)) ⌝ }
 {
-    let written = groups::report(words, badges, ticks, out);
+    let written = groups::report(words, badges, ticks, Thresholds::PLAIN, out);
     *answer = group_answer(written);
 }
 

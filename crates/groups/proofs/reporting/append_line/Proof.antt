@@ -1,4 +1,4 @@
--- append_line meets its contract: before the turn of a last tick the records of the spans that end before it are appended.
+-- append_line meets its contract: before the turn of a last tick the records that are kept of the spans that end before it are appended.
 use mathlib.Core.Path.{_≡_}
 use Prim.Native.Nat.{_-_, _≤_}
 use native.Mathlib.Numerals.{add-one}
@@ -6,19 +6,21 @@ use native.Mathlib.Omega.{arith}
 use borrow.Author.Needs.{needs}
 use Rattle.sets.specs.Ascii.{ascii}
 use Rattle.sets.specs.Tables.{concatBelow}
+use Rattle.spans.specs.Thresholds.{kept}
 use Rattle.groups.specs.Appending.{AppendsCores, lineList}
 use Rattle.groups.proofs.Appended.{appends-none, lineCell, line-none, line-more, cells-le}
 use Rattle.groups.proofs.reporting.append_line.Statement.{statement}
 use Rattle.groups.proofs.reporting.append_line.Tie as tie
 
 abbrev Inv-loop : tie.InvT-loop
-Inv-loop buffer₀ count orders members first ticks so-far₀ last₀ buffer so-far last =
-    (first ≤ last) × (last ≤ ticks) × AppendsCores (ascii "GR") 4 (concatBelow last (lineCell orders members first)) count so-far buffer₀ buffer
+Inv-loop buffer₀ count orders members first ticks least so-far₀ last₀ buffer so-far last =
+    (first ≤ last) × (last ≤ ticks) × AppendsCores (ascii "GR") 4 (kept least (concatBelow last (lineCell orders members first))) count so-far buffer₀ buffer
 
 abbrev μ-loop : tie.MeasureT-loop
-μ-loop buffer₀ count orders members first ticks so-far₀ last₀ buffer so-far last = ticks - last
+μ-loop buffer₀ count orders members first ticks least so-far₀ last₀ buffer so-far last = ticks - last
 
 loop-holds : tie.Need-loop-holds Inv-loop μ-loop
+unfolding kept
 loop-holds c =
     let a = c .before .before .before .args in
     (search needs, search needs, rw (line-none (a .orders .now) (a .members .now) (a .first)) appends-none)
@@ -26,11 +28,11 @@ loop-holds c =
 shared-slice-read-append-group : tie.Need-shared-slice-read-append-group Inv-loop μ-loop
 shared-slice-read-append-group c = search needs
 
-cast-t14 : tie.Need-cast-t14 Inv-loop μ-loop
-cast-t14 c = let p = c .before .before .before .before .before .before .pre in omega (arith, p .short, p .inside)
-
 cast-t15 : tie.Need-cast-t15 Inv-loop μ-loop
-cast-t15 c = let p = c .before .before .before .before .before .before .pre in omega (arith, p .short, c .before .loop-test .taken)
+cast-t15 c = let p = c .before .before .before .before .before .before .pre in omega (arith, p .short, p .inside)
+
+cast-t16 : tie.Need-cast-t16 Inv-loop μ-loop
+cast-t16 c = let p = c .before .before .before .before .before .before .pre in omega (arith, p .short, c .before .loop-test .taken)
 
 mul-from-word : tie.Need-mul-from-word Inv-loop μ-loop
 mul-from-word c = search needs
@@ -52,7 +54,7 @@ append-group-requires c κs =
     let i = c .before .before .before .before .before .before .loop in
     let s = c .before .before .before .before .before .before .before .before .before .before in
     let a = s .args in
-    omega (arith, i .inv .2 .number, i .inv .2 .size, cells-le (a .orders .now) (a .members .now) (a .first) (i .last), s .pre .room)
+    (omega (arith, i .inv .2 .number, i .inv .2 .size, cells-le (a .orders .now) (a .members .now) (a .first) (a .least) (i .last), s .pre .room), i .inv .0)
 
 add-last : tie.Need-add-last Inv-loop μ-loop
 add-last c = search needs
@@ -64,7 +66,7 @@ loop-again : tie.Need-loop-again Inv-loop μ-loop
 loop-again c =
     let i = c .before .before .before .before .before .before .before .before .before .loop in
     let a = c .before .before .before .before .before .before .before .before .before .before .before .before .before .args in
-    (search needs, search needs, line-more (a .orders .now) (a .members .now) (a .first) (i .last) (i .inv .0) (i .inv .2) (rw (add-one, c .before .before .before .before .before .from-word .ensures) at (c .before .before .append-group .ensures)))
+    (search needs, search needs, line-more (a .orders .now) (a .members .now) (a .first) (a .least) (i .last) (i .inv .0) (i .inv .2) (rw (add-one, c .before .before .before .before .before .from-word .ensures) at (c .before .before .append-group .ensures)))
 
 same-length : tie.Need-same-length Inv-loop μ-loop
 same-length c = search needs
@@ -83,8 +85,8 @@ append-line-spec =
     μ-loop
     loop-holds
     shared-slice-read-append-group
-    cast-t14
     cast-t15
+    cast-t16
     mul-from-word
     shared-slice-read-from-word
     from-word-requires

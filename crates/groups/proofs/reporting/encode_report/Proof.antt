@@ -1,4 +1,4 @@
--- `encode_report` meets its contract: before the turn of a first tick the groups of the spans that start before it are appended.
+-- `encode_report` meets its contract: before the turn of a first tick the groups that are kept of the spans that start before it are appended.
 use Prim.Native.Nat.{_-_}
 use native.Mathlib.Omega.{arith}
 use borrow.Author.Needs.{needs}
@@ -8,16 +8,16 @@ use Rattle.groups.proofs.reporting.encode_report.Statement.{statement}
 use Rattle.groups.proofs.reporting.encode_report.Tie as tie
 
 abbrev Inv-loop : tie.InvT-loop
-Inv-loop words day buffer₀ orders₀ members₀ count₀ first₀ first-end buffer orders members count first = ReportSoFar (day .badges) (day .ticks) words first count buffer₀ buffer orders members
+Inv-loop words day least buffer₀ orders₀ members₀ count₀ first₀ first-end buffer orders members count first = ReportSoFar (day .badges) (day .ticks) words least first count buffer₀ buffer orders members
 
 abbrev μ-loop : tie.MeasureT-loop
-μ-loop words day buffer₀ orders₀ members₀ count₀ first₀ first-end buffer orders members count first = day .ticks - first
-
-cast-t10 : tie.Need-cast-t10 Inv-loop μ-loop
-cast-t10 c = omega (arith, limits-of (c .before .before .before .pre .0 .limits) .few)
+μ-loop words day least buffer₀ orders₀ members₀ count₀ first₀ first-end buffer orders members count first = day .ticks - first
 
 cast-t11 : tie.Need-cast-t11 Inv-loop μ-loop
-cast-t11 c = omega (arith, limits-of (c .before .before .before .before .pre .0 .limits) .short)
+cast-t11 c = omega (arith, limits-of (c .before .before .before .pre .0 .limits) .few)
+
+cast-t12 : tie.Need-cast-t12 Inv-loop μ-loop
+cast-t12 c = omega (arith, limits-of (c .before .before .before .before .pre .0 .limits) .short)
 
 slice-aggregate-put : tie.Need-slice-aggregate-put Inv-loop μ-loop
 slice-aggregate-put c = search needs
@@ -26,7 +26,7 @@ put-requires : tie.Need-put-requires Inv-loop μ-loop
 put-requires c κs = search needs
 
 loop-holds : tie.Need-loop-holds Inv-loop μ-loop
-loop-holds c = so-far-none _ _ _ _ (c .before .before .before .before .before .before .before .before .before .pre .0) (omega arith)
+loop-holds c = so-far-none _ _ _ _ _ (c .before .before .before .before .before .before .before .before .before .pre .0) (omega arith)
 
 slice-aggregate-find-line : tie.Need-slice-aggregate-find-line Inv-loop μ-loop
 slice-aggregate-find-line c = search needs
@@ -71,8 +71,8 @@ mul-put-record c = omega (arith, so-far-count (c .before .before .loop .inv))
 add-put-record : tie.Need-add-put-record Inv-loop μ-loop
 add-put-record c = omega (arith, so-far-count (c .before .before .loop .inv))
 
-cast-t35 : tie.Need-cast-t35 Inv-loop μ-loop
-cast-t35 c = omega (arith, so-far-count (c .before .before .loop .inv))
+cast-t36 : tie.Need-cast-t36 Inv-loop μ-loop
+cast-t36 c = omega (arith, so-far-count (c .before .before .loop .inv))
 
 put-record-requires : tie.Need-put-record-requires Inv-loop μ-loop
 put-record-requires c κs = search needs
@@ -89,8 +89,8 @@ encode-report-spec =
     (tie.spec
     Inv-loop
     μ-loop
-    cast-t10
     cast-t11
+    cast-t12
     slice-aggregate-put
     put-requires
     loop-holds
@@ -105,7 +105,7 @@ encode-report-spec =
     loop-again
     mul-put-record
     add-put-record
-    cast-t35
+    cast-t36
     put-record-requires
     same-length
     returns)

@@ -1,4 +1,4 @@
--- `report` meets its contract: the refusal of the check, or what the report's delivery comes to; and so the group statement.
+-- `report` meets its contract: the refusal of the check, or what the day's report comes to; and so the group statement.
 use mathlib.Core.Path.{_≡_, sym, ap, _∙_}
 use borrow.Author.Needs.{needs}
 use Rattle.records.specs.Outcomes.{success}
@@ -22,17 +22,17 @@ enum-known-refusal c = search needs
 enum-told : tie.Need-enum-told
 enum-told c = search needs
 
-deliver-report-requires : tie.Need-deliver-report-requires
-deliver-report-requires c κs = check-passed _ _ _ (passed (c .before))
+report-day-requires : tie.Need-report-day-requires
+report-day-requires c κs = check-passed _ _ _ (passed (c .before))
 
 returns : tie.Need-returns
 returns c =
     let s = c .before .before .before in
     let a = s .before .before .before .args in
-    let e = report-refused (a .badges) (a .ticks) (a .words .now) (a .buffer .now) _ _ (sym (s .check-words .ensures) ∙ ap checkedOutcome (c .before .refusal .given .1)) in
+    let e = report-refused (a .badges) (a .ticks) (a .words .now) (a .least) (a .buffer .now) _ _ (sym (s .check-words .ensures) ∙ ap checkedOutcome (c .before .refusal .given .1)) in
     let x = sym (ap (λ (x : Delivered). x .answer) e) in
     let y = sym (ap (λ (x : Delivered). x .buffer) e) in
-    (x, (y, reported (a .badges) (a .ticks) (a .words .now) (a .buffer .now) _ _ x y))
+    (x, (y, reported (a .badges) (a .ticks) (a .words .now) (a .least) (a .buffer .now) _ _ x y))
 
 same-length : tie.Need-same-length
 same-length c = search needs
@@ -41,10 +41,10 @@ returns-2 : tie.Need-returns-2
 returns-2 c =
     let d = c .before .before in
     let a = d .before .before .before .before .before .before .before .args in
-    let e = report-passed (a .badges) (a .ticks) (a .words .now) (a .buffer .now) (passed (d .before .before)) in
-    let x = d .deliver-report .ensures .0 ∙ sym (ap (λ (x : Delivered). x .answer) e) in
-    let y = d .deliver-report .ensures .1 ∙ sym (ap (λ (x : Delivered). x .buffer) e) in
-    (x, (y, reported (a .badges) (a .ticks) (a .words .now) (a .buffer .now) _ _ x y))
+    let e = report-passed (a .badges) (a .ticks) (a .words .now) (a .least) (a .buffer .now) (passed (d .before .before)) in
+    let x = d .report-day .ensures .0 ∙ sym (ap (λ (x : Delivered). x .answer) e) in
+    let y = d .report-day .ensures .1 ∙ sym (ap (λ (x : Delivered). x .buffer) e) in
+    (x, (y, reported (a .badges) (a .ticks) (a .words .now) (a .least) (a .buffer .now) _ _ x y))
 
 pub report-spec : {M : Type 1} → statement M
 report-spec =
@@ -53,7 +53,7 @@ report-spec =
     check-words-requires
     enum-known-refusal
     enum-told
-    deliver-report-requires
+    report-day-requires
     returns
     same-length
     returns-2)
