@@ -48,7 +48,8 @@ int main(int argc, char **argv) {
     check(answer);
     size_t badges = answer[WARD_BADGES], ticks = answer[WARD_TICKS];
 
-    ward_report(words, WARD_WORDS, badges, ticks, report, sizeof report, answer);
+    /* thresholds 1, 1 and 2: every group */
+    ward_report(words, WARD_WORDS, badges, ticks, 1, 1, 2, report, sizeof report, answer);
     check(answer);
     print_records("order", report, 4, answer[WARD_COUNT]);
 

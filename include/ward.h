@@ -62,7 +62,8 @@ enum {
     WARD_FOREIGN_QUERY = 13,         /* the query has a badge that the day does not have */
     WARD_INVALID_PARTS = 14,         /* no parts, or more than there are ticks */
     WARD_WRITE_TOO_MANY = 15,        /* the tidy log would need more than 8,000 contact records */
-    WARD_TIDY_TOO_MANY = 16          /* the same, of ward_tidy; it cannot occur */
+    WARD_TIDY_TOO_MANY = 16,         /* the same, of ward_tidy; it cannot occur */
+    WARD_THRESHOLD_OUT_OF_RANGE = 17 /* least ticks not 1 to 96, least order not 1 to 63, or least members not 2 to 64 */
 };
 
 /* Reads a log into day words: word t * badges + u has bit v set exactly when u and v are in contact in tick t. On success every one of the
@@ -81,8 +82,11 @@ void ward_core_numbers(const uint64_t *words, size_t words_len, size_t badges, s
                        uint64_t answer[5]);
 
 /* The report of the day's groups, the maximal span-cores, by first tick and then last tick: RH, badges, ticks; for each group GR, order, first tick,
- * last tick, members as a set of 8 bytes, the lowest first; ED and their number in 4 bytes. Refused by 10, 8, 11, 9. */
-void ward_report(const uint64_t *words, size_t words_len, size_t badges, size_t ticks, uint8_t *out, size_t out_len, uint64_t answer[5]);
+ * last tick, members as a set of 8 bytes, the lowest first; ED and their number in 4 bytes. It keeps the groups that last least_ticks ticks or more, are
+ * of order least_order or more and have least_members members or more; which cores are maximal is judged before that, among all of them. 1, 1 and 2 keep
+ * every group. Whatever badges and ticks are, least_ticks may be 1 to 96, least_order 1 to 63 and least_members 2 to 64. Refused by 10, 8, 11, 17, 9. */
+void ward_report(const uint64_t *words, size_t words_len, size_t badges, size_t ticks, size_t least_ticks, size_t least_order, size_t least_members,
+                 uint8_t *out, size_t out_len, uint64_t answer[5]);
 
 /* The plan of the shift around a query, a set with bit u for badge u: cuts the day into so many parts with the greatest sum of scores. PH, badges,
  * ticks, parts, query in 8 bytes; for each part PT, score, first tick, last tick, members; ED and their number. Refused by 10, 8, 11, 13, 14, 9. */

@@ -1,7 +1,9 @@
 #!/usr/bin/env bash
-# Counts the instructions of one call on each day of the benchmark, in millions: figures that repeat. One table has the report, made by the engine and
-# by each baseline; the other has the engine's plan around badges 0 and 1 in 8 parts, the core numbers of ticks 0 to 3, write, and read and tidy of the
-# day's log, '-' where a day has none, having more than 8,000 runs. Each count is of one call in a new process; buffers are not cleared between calls, and no clearing is counted.
+# Counts the instructions of one call on each day of the benchmark, in millions: figures that repeat. One table has the plain report, made by the
+# engine and by each baseline, and 'filtered', the engine's report of the groups that last 4 ticks or more, are of order 2 or more and have 3 members or
+# more: it should take no more instructions than the plain one, and how many fewer it takes, one by one, stands last. The other table has the engine's
+# plan around badges 0 and 1 in 8 parts, the core numbers of ticks 0 to 3, write, and read and tidy of the day's log, '-' where a day has none, having
+# more than 8,000 runs. Each count is of one call in a new process; buffers are not cleared between calls, and no clearing is counted.
 # Needs cargo, valgrind, and target/staticlib/libward.a, which `rt staticlib ward` writes. Its arguments are the days, all five if there are none.
 set -euo pipefail
 cd "$(dirname "${BASH_SOURCE[0]}")/../rust/ward"
@@ -24,17 +26,18 @@ millions() { awk -v count="$1" 'BEGIN { printf "%12s", count == 0 ? "-" : sprint
 ratio() { awk -v a="$1" -v b="$2" 'BEGIN { printf "%.2f", a / b }'; }
 
 declare -A counts
-reports=(engine lists algorithm2 bitsets)
+reports=(engine lists algorithm2 bitsets filtered)
 printf '%-20s' "report, millions"
 printf '%12s' "${reports[@]}"
-printf '%16s%14s\n' "engine/bitsets" "lists/engine"
+printf '%16s%14s%17s\n' "engine/bitsets" "lists/engine" "engine-filtered"
 for day in "$@"; do
     printf '%-20s' "$day"
     for call in "${reports[@]}"; do
         counts[$call]=$(count "$day" "$call")
         millions "${counts[$call]}"
     done
-    printf '%16s%14s\n' "$(ratio "${counts[engine]}" "${counts[bitsets]}")" "$(ratio "${counts[lists]}" "${counts[engine]}")"
+    printf '%16s%14s%17s\n' "$(ratio "${counts[engine]}" "${counts[bitsets]}")" "$(ratio "${counts[lists]}" "${counts[engine]}")" \
+        "$((counts[engine] - counts[filtered]))"
 done
 
 others=(plan numbers write read tidy)

@@ -85,11 +85,17 @@ static size_t odd_size(size_t usual, size_t most) {
     return below(20) == 0 ? odd[below(6)] : 1 + below(usual < most ? usual : most);
 }
 
+/* A threshold, mostly near the lower end of its range; sometimes at its upper end, or outside. */
+static size_t threshold(size_t from, size_t to) {
+    const size_t odd[] = {0, from - 1, to, to + 1, SIZE_MAX};
+    return below(20) == 0 ? odd[below(5)] : from + below(3);
+}
+
 /* Whether the five numbers, all ones before the call, are an answer: a refusal by its number and offset, or a success by its values, and else 0. */
 static int is_answer(size_t call, const uint64_t answer[5]) {
     uint64_t number = answer[WARD_NUMBER], values = answer[WARD_BADGES] | answer[WARD_TICKS];
     if (number != WARD_SUCCESS)
-        return number <= WARD_TIDY_TOO_MANY && (number <= WARD_TRAILING_BYTES || answer[WARD_OFFSET] == 0) && (values | answer[WARD_COUNT]) == 0;
+        return number <= WARD_THRESHOLD_OUT_OF_RANGE && (number <= WARD_TRAILING_BYTES || answer[WARD_OFFSET] == 0) && (values | answer[WARD_COUNT]) == 0;
     return answer[WARD_OFFSET] == 0 && answer[WARD_COUNT] <= WARD_REPORT_BYTES && (call == 0 ? values < 128 : values == 0);
 }
 
@@ -125,7 +131,7 @@ int main(int argc, char **argv) {
             else if (call == 3)
                 ward_core_numbers(words, words_len, n, ticks, below(ticks % 99 + 1), below(ticks % 99 + 1), out, out_len, answer);
             else if (call == 4)
-                ward_report(words, words_len, n, ticks, out, out_len, answer);
+                ward_report(words, words_len, n, ticks, threshold(1, 96), threshold(1, 63), threshold(2, 64), out, out_len, answer);
             else
                 ward_plan(words, words_len, n, ticks, next() & next() & next() & (((uint64_t)2 << n % 64) - 1), below(9), out, out_len, answer);
             writable(words_at, 1);

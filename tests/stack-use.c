@@ -19,7 +19,7 @@ static const char *const names[CALLS] = {"ward_read", "ward_tidy", "ward_write",
 static int call;
 static uint64_t words[WARD_WORDS], query;
 static uint8_t log_bytes[WARD_LOG_BYTES];
-static size_t log_size, last, parts;
+static size_t log_size, last, parts, least_ticks;
 static uint64_t work[WARD_WORDS], answer[5];
 static uint8_t out[WARD_REPORT_BYTES];
 
@@ -37,7 +37,7 @@ static void make_call(void) {
     else if (call == CORE_NUMBERS)
         ward_core_numbers(words, WARD_WORDS, N, TICKS, 0, last, out, sizeof out, answer);
     else if (call == REPORT)
-        ward_report(words, WARD_WORDS, N, TICKS, out, sizeof out, answer);
+        ward_report(words, WARD_WORDS, N, TICKS, least_ticks, 1, 2, out, sizeof out, answer);
     else
         ward_plan(words, WARD_WORDS, N, TICKS, query, parts, out, sizeof out, answer);
 }
@@ -108,8 +108,9 @@ static void measure_words(void) {
     static const size_t many[] = {1, 2, 8, 48, TICKS};
     static const uint64_t queries[] = {0, 3, UINT64_MAX};
     measure(WRITE);
-    measure(REPORT);
     for (size_t i = 0; i < 5; i++) {
+        least_ticks = many[i];
+        measure(REPORT);
         last = many[i] - 1;
         measure(CORE_NUMBERS);
         for (size_t q = 0; q < 3; q++) {

@@ -5,10 +5,9 @@ mod answers;
 ghost use mathlib.Core.Path.{_≡_};
 ghost use Rattle.days.specs.Calls.{readOf};
 ghost use Rattle.log.specs.Calls.{tidyOf, writeOf};
-ghost use Rattle.spans.specs.Thresholds.{plain};
 ghost use Rattle.groups.specs.Calls.{coreNumbersOf, reportOf};
 ghost use Rattle.groups.specs.GroupReports.{Reported};
-ghost use Rattle.ward.specs.Answers.{readAnswer, writtenAnswer};
+ghost use Rattle.ward.specs.Answers.{leastOf, readAnswer, writtenAnswer};
 ghost use Rattle.ward.specs.PlanAnswers.{PlanAnswered};
 use answers::group_answer;
 use answers::log_answer;
@@ -71,20 +70,28 @@ pub extern "C" fn ward_core_numbers(
     *answer = group_answer(written);
 }
 
-// groups::report, the plain report.
+// groups::report: its thresholds are handed over as the least length in ticks, the least order and the least number of members.
 #[no_mangle]
 pub extern "C" fn ward_report(
     words: &[u64],
     badges: usize,
     ticks: usize,
+    length: usize,
+    order: usize,
+    members: usize,
     out: &mut [u8],
     answer: &mut [u64; 5],
 )
-    ensures answer { λ _. ⌜ now (answer .exit) ≡ writtenAnswer (reportOf badges ticks (now (words .entry)) plain (now (out .entry)) .answer) ⌝ }
-    ensures leaves { λ _. ⌜ now (out .exit) ≡ reportOf badges ticks (now (words .entry)) plain (now (out .entry)) .buffer ⌝ }
-    ensures groups { λ _. ⌜ Reported badges ticks (now (words .entry)) plain (reportOf badges ticks (now (words .entry)) plain (now (out .entry)) .answer) (now (out .exit)) ⌝ }
+    ensures answer { λ _. ⌜ now (answer .exit) ≡ writtenAnswer (reportOf badges ticks (now (words .entry)) (leastOf length order members) (now (out .entry)) .answer) ⌝ }
+    ensures leaves { λ _. ⌜ now (out .exit) ≡ reportOf badges ticks (now (words .entry)) (leastOf length order members) (now (out .entry)) .buffer ⌝ }
+    ensures groups { λ _. ⌜ Reported badges ticks (now (words .entry)) (leastOf length order members) (reportOf badges ticks (now (words .entry)) (leastOf length order members) (now (out .entry)) .answer) (now (out .exit)) ⌝ }
 {
-    let written = groups::report(words, badges, ticks, Thresholds::PLAIN, out);
+    let least = Thresholds {
+        ticks: length,
+        order,
+        members,
+    };
+    let written = groups::report(words, badges, ticks, least, out);
     *answer = group_answer(written);
 }
 

@@ -8,7 +8,7 @@
 //! assert_eq!((day.badges, day.ticks, day.contacts), (3, 2, 1));
 //!
 //! let mut report = [0u8; ward::REPORT_BYTES];
-//! let size = ward::report(&words, day.badges, day.ticks, &mut report)?;
+//! let size = ward::report(&words, day.badges, day.ticks, ward::Thresholds::default(), &mut report)?;
 //! assert_eq!(&report[..4], b"RH\x03\x02");
 //! assert_eq!(&report[4..17], b"GR\x01\x00\x01\x03\x00\x00\x00\x00\x00\x00\x00");
 //! assert_eq!(size, 23);
@@ -38,6 +38,25 @@ pub struct Day {
     pub contacts: usize,
 }
 
+/// What a group needs for a report to keep it: so many ticks or more, 1 to 96; an order of so much or more, 1 to 63; so many members or more, 2 to 64.
+/// The ranges are the same for every day. By default a report keeps every group.
+///
+/// ```
+/// assert_eq!(ward::Thresholds::default(), ward::Thresholds { ticks: 1, order: 1, members: 2 });
+/// ```
+#[derive(Clone, Copy, Debug, PartialEq, Eq)]
+pub struct Thresholds {
+    pub ticks: usize,
+    pub order: usize,
+    pub members: usize,
+}
+
+impl Default for Thresholds {
+    fn default() -> Thresholds {
+        Thresholds { ticks: 1, order: 1, members: 2 }
+    }
+}
+
 type Answer = [u64; 5];
 
 extern "C" {
@@ -55,7 +74,18 @@ extern "C" {
         out_len: usize,
         answer: *mut Answer,
     );
-    fn ward_report(words: *const u64, words_len: usize, badges: usize, ticks: usize, out: *mut u8, out_len: usize, answer: *mut Answer);
+    fn ward_report(
+        words: *const u64,
+        words_len: usize,
+        badges: usize,
+        ticks: usize,
+        least_ticks: usize,
+        least_order: usize,
+        least_members: usize,
+        out: *mut u8,
+        out_len: usize,
+        answer: *mut Answer,
+    );
     fn ward_plan(
         words: *const u64,
         words_len: usize,
@@ -131,18 +161,30 @@ pub fn core_numbers(words: &[u64], badges: usize, ticks: usize, first: usize, la
     written(answer)
 }
 
-/// Puts the report of a day's groups into a buffer, and gives the number of bytes.
+/// Puts the report of a day's groups into a buffer, of those that meet the thresholds, and gives the number of bytes.
 ///
 /// ```
-/// let words = [0b10, 0b01];
+/// let words = [0b110, 0b101, 0b011, 0b010, 0b001, 0]; // three badges in contact, and in the next tick two of them
 /// let mut report = [0u8; ward::REPORT_BYTES];
-/// let size = ward::report(&words, 2, 1, &mut report)?;
-/// assert_eq!(&report[..size], b"RH\x02\x01GR\x01\x00\x00\x03\x00\x00\x00\x00\x00\x00\x00ED\x01\x00\x00\x00");
+/// let size = ward::report(&words, 3, 2, ward::Thresholds::default(), &mut report)?;
+/// assert_eq!(&report[4..17], b"GR\x02\x00\x00\x07\x00\x00\x00\x00\x00\x00\x00"); // order 2, tick 0 to 0, all three
+/// assert_eq!(&report[17..30], b"GR\x01\x00\x01\x03\x00\x00\x00\x00\x00\x00\x00"); // order 1, ticks 0 to 1, the two
+/// assert_eq!(size, 36);
+///
+/// let lasting = ward::Thresholds { ticks: 2, ..Default::default() };
+/// let size = ward::report(&words, 3, 2, lasting, &mut report)?;
+/// assert_eq!(&report[..size], b"RH\x03\x02GR\x01\x00\x01\x03\x00\x00\x00\x00\x00\x00\x00ED\x01\x00\x00\x00");
+///
+/// let alone = ward::Thresholds { members: 1, ..Default::default() };
+/// let refused = ward::report(&words, 3, 2, alone, &mut report).unwrap_err();
+/// assert_eq!(refused.refusal, ward::Refusal::ThresholdOutOfRange);
+/// assert_eq!(refused.to_string(), "refused 17 at 0: least ticks not 1 to 96, least order not 1 to 63, or least members not 2 to 64");
 /// # Ok::<(), ward::Refused>(())
 /// ```
-pub fn report(words: &[u64], badges: usize, ticks: usize, out: &mut [u8]) -> Result<usize, Refused> {
+pub fn report(words: &[u64], badges: usize, ticks: usize, thresholds: Thresholds, out: &mut [u8]) -> Result<usize, Refused> {
     let mut answer = [0; 5];
-    unsafe { ward_report(words.as_ptr(), words.len(), badges, ticks, out.as_mut_ptr(), out.len(), &mut answer) };
+    let Thresholds { ticks: least_ticks, order, members } = thresholds;
+    unsafe { ward_report(words.as_ptr(), words.len(), badges, ticks, least_ticks, order, members, out.as_mut_ptr(), out.len(), &mut answer) };
     written(answer)
 }
 
@@ -171,7 +213,7 @@ fn refused(answer: Answer) -> Result<(), Refused> {
     if answer[0] == 0 {
         return Ok(());
     }
-    let refusal = Refusal::from_number(answer[0]).expect("a call answers by 0 to 16");
+    let refusal = Refusal::from_number(answer[0]).expect("a call answers by 0 to 17");
     Err(Refused { refusal, offset: answer[1] as usize })
 }
 

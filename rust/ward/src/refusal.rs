@@ -3,14 +3,14 @@
 use std::error::Error;
 use std::fmt;
 
-/// A refusal, in the order of its numbers, 1 to 16.
+/// A refusal, in the order of its numbers, 1 to 17.
 ///
 /// ```
 /// use ward::Refusal;
 /// assert_eq!(Refusal::NotADay.number(), 11);
 /// assert_eq!(Refusal::from_number(11), Some(Refusal::NotADay));
-/// assert_eq!((1..=16).map(|k| Refusal::from_number(k).unwrap().number() as u64).collect::<Vec<_>>(), (1..=16).collect::<Vec<_>>());
-/// assert_eq!((Refusal::from_number(0), Refusal::from_number(17)), (None, None));
+/// assert_eq!((1..=17).map(|k| Refusal::from_number(k).unwrap().number() as u64).collect::<Vec<_>>(), (1..=17).collect::<Vec<_>>());
+/// assert_eq!((Refusal::from_number(0), Refusal::from_number(18)), (None, None));
 /// ```
 #[derive(Clone, Copy, Debug, PartialEq, Eq)]
 pub enum Refusal {
@@ -30,11 +30,12 @@ pub enum Refusal {
     InvalidParts,
     WriteTooMany,
     TidyTooMany,
+    ThresholdOutOfRange,
 }
 
 use Refusal::*;
 
-const ALL: [(Refusal, &str); 16] = [
+const ALL: [(Refusal, &str); 17] = [
     (CutShort, "the bytes end inside a record, or where one must start"),
     (WrongMark, "the mark is not that of a record that may stand there"),
     (HeaderOutOfLimits, "badges not 1 to 64, or ticks not 1 to 96"),
@@ -51,10 +52,11 @@ const ALL: [(Refusal, &str); 16] = [
     (InvalidParts, "no parts, or more than there are ticks"),
     (WriteTooMany, "the tidy log would need more than 8,000 contact records"),
     (TidyTooMany, "the tidy log would need more than 8,000 contact records"),
+    (ThresholdOutOfRange, "least ticks not 1 to 96, least order not 1 to 63, or least members not 2 to 64"),
 ];
 
 impl Refusal {
-    /// The refusal of a number; none for 0, which is success, and for a number above 16.
+    /// The refusal of a number; none for 0, which is success, and for a number above 17.
     pub fn from_number(number: u64) -> Option<Refusal> {
         let place = usize::try_from(number.checked_sub(1)?).ok()?;
         ALL.get(place).map(|refusal| refusal.0)

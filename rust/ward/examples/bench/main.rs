@@ -1,6 +1,7 @@
-//! Compares the report with baselines in Rust, and measures the plan around badges 0 and 1 in 8 parts, the core numbers of ticks 0 to 3, write, and read
-//! and tidy of the day's log, on days of 64 badges and 96 ticks from a fixed generator. Medians of wall time, and ratios, in one run. Every baseline does the checks 10, 8, 11 and 9 and
-//! the encoding, as the engine does, and its bytes are compared with the engine's first. Buffers are not cleared between calls.
+//! Compares the plain report with baselines in Rust and with the engine's own report under thresholds, and measures the plan around badges 0 and 1 in
+//! 8 parts, the core numbers of ticks 0 to 3, write, and read and tidy of the day's log, on days of 64 badges and 96 ticks from a fixed generator.
+//! Medians of wall time, and ratios, in one run. Every baseline does the checks 10, 8, 11 and 9 and the encoding, as the engine does, and its bytes are
+//! compared with the engine's first. Buffers are not cleared between calls.
 //!
 //!     cargo run --offline --release --example bench            the tables
 //!     cargo run --offline --release --example bench -- W C     one call, for an instruction count: workload W, call C
@@ -15,11 +16,22 @@ use std::time::Instant;
 type Report = fn(&[u64], usize, usize, &mut [u8]) -> Option<usize>;
 
 fn engine(words: &[u64], n: usize, ticks: usize, out: &mut [u8]) -> Option<usize> {
-    ward::report(words, n, ticks, out).ok()
+    ward::report(words, n, ticks, ward::Thresholds::default(), out).ok()
 }
 
-const REPORTS: [(&str, Report); 4] =
-    [("engine", engine), ("lists", baselines::lists::report), ("algorithm2", baselines::algorithm2::report), ("bitsets", baselines::bitsets::report)];
+/// The engine's report of the groups that last 4 ticks or more, are of order 2 or more and have 3 members or more.
+fn filtered(words: &[u64], n: usize, ticks: usize, out: &mut [u8]) -> Option<usize> {
+    ward::report(words, n, ticks, ward::Thresholds { ticks: 4, order: 2, members: 3 }, out).ok()
+}
+
+/// The ways to make the plain report, and the one with fewer groups.
+const REPORTS: [(&str, Report); 5] = [
+    ("engine", engine),
+    ("lists", baselines::lists::report),
+    ("algorithm2", baselines::algorithm2::report),
+    ("bitsets", baselines::bitsets::report),
+    ("filtered", filtered),
+];
 const OTHERS: [&str; 5] = ["plan", "numbers", "write", "read", "tidy"];
 
 /// A call on one day with buffers of its own, to be made so often as one likes: the number of bytes, or of contact records, that it gives.
@@ -69,11 +81,11 @@ fn median(rounds: usize, mut call: Call) -> f64 {
     times[rounds / 2]
 }
 
-/// The number of groups, once every way to make the report has given the same bytes.
+/// The number of groups, once every way to make the plain report has given the same bytes.
 fn groups(day: &str, words: &[u64]) -> usize {
     let mut expected = vec![0; ward::REPORT_BYTES];
     let size = engine(words, 64, 96, &mut expected).expect("a day");
-    for (name, report) in REPORTS {
+    for (name, report) in REPORTS.into_iter().filter(|r| r.0 != "filtered") {
         let mut out = vec![0; ward::REPORT_BYTES];
         assert_eq!(report(words, 64, 96, &mut out), Some(size), "{day}: {name}");
         assert!(out == expected, "{day}: {name}");
@@ -84,13 +96,13 @@ fn groups(day: &str, words: &[u64]) -> usize {
 fn tables() {
     print!("{:<12}{:>8}", "report, µs", "groups");
     REPORTS.iter().for_each(|r| print!("{:>12}", r.0));
-    println!("{:>16}{:>14}", "engine/bitsets", "lists/engine");
+    println!("{:>16}{:>14}{:>17}", "engine/bitsets", "lists/engine", "filtered/engine");
     for (day, words) in days::all() {
         print!("{day:<12}{:>8}", groups(day, &words));
         let times = REPORTS.map(|(name, _)| median(if name == "lists" { 5 } else { 15 }, ready(name, &words).expect("a report")));
         times.iter().for_each(|time| print!("{time:>12.0}"));
-        let [engine, lists, _, bitsets] = times;
-        println!("{:>16.2}{:>14.2}", engine / bitsets, lists / engine);
+        let [engine, lists, _, bitsets, filtered] = times;
+        println!("{:>16.2}{:>14.2}{:>17.2}", engine / bitsets, lists / engine, filtered / engine);
     }
     println!();
     print!("{:<20}", "other calls, µs");

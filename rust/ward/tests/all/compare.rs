@@ -1,12 +1,13 @@
 //! Every call against the model: random inputs, long and short, valid and damaged, all sizes.
 
-use crate::model;
+use crate::model::{self, PLAIN};
 use crate::support::calls::{day_of, read, tidy};
 use crate::support::days::random_day;
 use crate::support::handed::Handed;
 use crate::support::logs::{damage, random_log};
 use crate::support::random::Random;
 use crate::support::seen::all_seen;
+use crate::thresholds::random_least;
 use crate::tidying::settles;
 
 /// Sizes near the exact one, and some that are not.
@@ -93,7 +94,10 @@ fn compare_words(random: &mut Random, words: &[u64], n: usize, ticks: usize) {
     let day = Handed::new(words, n, ticks);
     let mut room = |answer: Result<Vec<u8>, _>| near(random, answer.map_or(40, |bytes| bytes.len()));
     _ = day.write(room(day.log()));
-    _ = day.report(room(day.groups()));
+    _ = day.report(room(day.groups(PLAIN)));
+    let least = random_least(random, n, ticks);
+    let room = near(random, day.groups(least).map_or(40, |bytes| bytes.len()));
+    _ = day.filtered(least, room);
     let (first, last) = (tick(random, ticks), tick(random, ticks));
     let room = near(random, n.min(64));
     _ = day.core_numbers(first, last, room);
@@ -142,7 +146,7 @@ fn days() {
     }
     all_seen("write", &[8, 9, 10, 11]);
     all_seen("core numbers", &[8, 9, 10, 11, 12]);
-    all_seen("report", &[8, 9, 10, 11]);
+    all_seen("report", &[8, 9, 10, 11, 17]);
     all_seen("plan", &[8, 9, 10, 11, 13, 14]);
 }
 

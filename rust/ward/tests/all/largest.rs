@@ -86,7 +86,7 @@ fn without_contacts() {
         for ticks in 1..=96 {
             let (mut numbers, mut report, mut log) = (Lent::room(n), Lent::room(10), Lent::room(10));
             assert_eq!(ward::core_numbers(&words, n, ticks, 0, ticks - 1, numbers.slice()), Ok(n));
-            assert_eq!(ward::report(&words, n, ticks, report.slice()), Ok(10));
+            assert_eq!(ward::report(&words, n, ticks, ward::Thresholds::default(), report.slice()), Ok(10));
             assert_eq!(ward::write(&words, n, ticks, log.slice()), Ok(10));
             numbers.holds(&vec![0; n]);
             report.holds(&model::report_bytes(n, ticks, &[]));

@@ -15,5 +15,6 @@ mod plans;
 mod refusals;
 mod reports;
 mod rows;
+mod thresholds;
 mod tidying;
 mod words;

@@ -1,6 +1,7 @@
 //! Refusals of core numbers, of the report and of the plan, one at a time, and several at once, where the first in the order of judging is given. The
 //! numbers are written by hand.
 
+use crate::model::{Least, PLAIN};
 use crate::support::d1::{WORDS, turned};
 use crate::support::handed::Handed;
 use crate::support::seen::all_seen;
@@ -116,15 +117,40 @@ const WORDS_REFUSED: &[(usize, Turned, usize, usize, usize, u8)] = &[
     (11, Some((0, 0)), 4, 3, 0, 8),
 ];
 
+/// Thresholds with one of the three outside its range, on either side, then with all of them.
+const OUT_OF_RANGE: &[Least] = &[
+    [0, 1, 2],
+    [97, 1, 2],
+    [HUGE, 1, 2],
+    [1, 0, 2],
+    [1, 64, 2],
+    [1, HUGE, 2],
+    [1, 1, 0],
+    [1, 1, 1],
+    [1, 1, 65],
+    [1, 1, HUGE],
+    [0, 0, 1],
+    [97, 64, 65],
+    [HUGE, HUGE, HUGE],
+];
+
 #[test]
 fn report() {
     for &(lent, bit, n, ticks, room, number) in WORDS_REFUSED {
-        assert_eq!(broken(lent, bit, n, ticks).report(room), Err((number, 0)));
+        for least in OUT_OF_RANGE.iter().chain([&PLAIN, &[96, 63, 64]]) {
+            assert_eq!(broken(lent, bit, n, ticks).filtered(*least, room), Err((number, 0)));
+        }
     }
-    for room in [35, 0] {
-        assert_eq!(broken(14, NONE, 4, 3).report(room), Err((9, 0)));
+    let day = broken(14, NONE, 4, 3);
+    for least in OUT_OF_RANGE {
+        for room in [80, 36, 35, 10, 9, 0] {
+            assert_eq!(day.filtered(*least, room), Err((17, 0)));
+        }
     }
-    all_seen("report", &[8, 9, 10, 11]);
+    for (least, room) in [(PLAIN, 35), (PLAIN, 0), ([3, 1, 2], 22), ([1, 1, 4], 9), ([96, 63, 64], 0)] {
+        assert_eq!(day.filtered(least, room), Err((9, 0)));
+    }
+    all_seen("report", &[8, 9, 10, 11, 17]);
 }
 
 /// Plan: how many words are lent, the bit turned over, n, T, query, h, how many bytes are lent; the number. One rule is broken, then two and more.

@@ -3,7 +3,7 @@
 use crate::support::d1::{d1, turned};
 use crate::support::handed::Handed;
 
-const D1: &[u8; 36] = b"RH\x04\x03\
+pub const D1: &[u8; 36] = b"RH\x04\x03\
     GR\x02\x00\x01\x07\x00\x00\x00\x00\x00\x00\x00\
     GR\x01\x00\x02\x0c\x00\x00\x00\x00\x00\x00\x00\
     ED\x02\x00\x00\x00";

@@ -11,7 +11,7 @@ type Call = fn(&[u64], usize, usize, &mut [u8]) -> Result<usize, ward::Refused>;
 const CALLS: [Call; 4] = [
     ward::write,
     |words, n, ticks, out| ward::core_numbers(words, n, ticks, 0, 0, out),
-    ward::report,
+    |words, n, ticks, out| ward::report(words, n, ticks, ward::Thresholds::default(), out),
     |words, n, ticks, out| ward::plan(words, n, ticks, 0, 1, out),
 ];
 

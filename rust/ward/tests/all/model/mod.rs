@@ -1,4 +1,4 @@
-//! A second implementation, written plainly from document 01 alone. It shares nothing with the engine, and is slow.
+//! A second implementation, written plainly from documents 01 and 02 alone. It shares nothing with the engine, and is slow.
 
 mod days;
 mod graphs;
@@ -6,6 +6,7 @@ mod listing;
 mod logs;
 mod records;
 mod spans;
+mod thresholds;
 
 pub use days::{Day, check};
 pub use graphs::{Graph, full};
@@ -13,6 +14,7 @@ pub use listing::{group_lines, piece, refusal_lines};
 pub use logs::{judge, log_bytes};
 pub use records::{Record, plan_bytes, report_bytes};
 pub use spans::Cores;
+pub use thresholds::{Least, PLAIN, RANGES, check_least, kept};
 
 /// A refusal's number and offset.
 pub type Refusal = (u8, usize);

@@ -2,7 +2,7 @@
 
 use super::lent::Lent;
 use super::seen::refusal;
-use crate::model::{self, Cores, Day, Graph, Refusal, full};
+use crate::model::{self, Cores, Day, Graph, Least, PLAIN, Record, Refusal, full};
 use std::cell::OnceCell;
 
 /// Words that are handed over with n and T, and what the model makes of them.
@@ -12,12 +12,14 @@ pub struct Handed {
     ticks: usize,
     day: Result<Day, Refusal>,
     cores: OnceCell<Cores>,
+    groups: OnceCell<Vec<Record>>,
 }
 
 /// The calls, into so many bytes: each gives what it wrote.
 impl Handed {
     pub fn new(words: &[u64], n: usize, ticks: usize) -> Handed {
-        Handed { words: words.to_vec(), n, ticks, day: model::check(words, n, ticks), cores: OnceCell::new() }
+        let day = model::check(words, n, ticks);
+        Handed { words: words.to_vec(), n, ticks, day, cores: OnceCell::new(), groups: OnceCell::new() }
     }
 
     pub fn write(&self, room: usize) -> Result<Vec<u8>, Refusal> {
@@ -30,9 +32,17 @@ impl Handed {
         self.compare("core numbers", room, self.numbers(first, last), call)
     }
 
+    /// The plain report.
     pub fn report(&self, room: usize) -> Result<Vec<u8>, Refusal> {
-        let call = |words: &[u64], out: &mut [u8]| ward::report(words, self.n, self.ticks, out);
-        self.compare("report", room, self.groups(), call)
+        self.filtered(PLAIN, room)
+    }
+
+    /// The report under thresholds.
+    pub fn filtered(&self, least: Least, room: usize) -> Result<Vec<u8>, Refusal> {
+        let [ticks, order, members] = least;
+        let thresholds = ward::Thresholds { ticks, order, members };
+        let call = |words: &[u64], out: &mut [u8]| ward::report(words, self.n, self.ticks, thresholds, out);
+        self.compare("report", room, self.groups(least), call)
     }
 
     fn compare(
@@ -86,9 +96,12 @@ impl Handed {
         if first > last || last >= self.ticks { Err((12, 0)) } else { Ok(Graph::throughout(day, first, last).core_numbers(full(self.n))) }
     }
 
-    /// Report: 10, 8, 11.
-    pub fn groups(&self) -> Result<Vec<u8>, Refusal> {
-        Ok(model::report_bytes(self.n, self.ticks, &self.cores()?.groups()))
+    /// Report: 10, 8, 11, 17.
+    pub fn groups(&self, least: Least) -> Result<Vec<u8>, Refusal> {
+        let cores = self.cores()?;
+        model::check_least(least)?;
+        let groups = self.groups.get_or_init(|| cores.groups());
+        Ok(model::report_bytes(self.n, self.ticks, &model::kept(groups, least)))
     }
 
     /// The number of bytes of a plan: 10, 8, 11, 13, 14.
