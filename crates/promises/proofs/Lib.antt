@@ -18,4 +18,5 @@ pub mod WordsAfter
 -- substitutes for core numbers, the report and the plan
 pub mod NumberSubstitutes
 pub mod ReportSubstitutes
+pub mod ThresholdSubstitutes
 pub mod PlanSubstitutes

@@ -28,10 +28,10 @@ use Rattle.spans.specs.Encoding.{encodeCores, reportBytes, decodeCores, records
 use Rattle.spans.specs.GroupStatement.{Has, GroupStatement, ReportAsked}
 use Rattle.spans.proofs.Decoding.{last-four}
 use Rattle.spans.proofs.MostGroups.{report-length}
-use Rattle.spans.proofs.GroupLists.{groups-stated}
+use Rattle.spans.proofs.GroupLists.{groups-stated, kept-plain}
 use Rattle.groups.specs.GroupReports.{ReportsGroups}
 use Rattle.promises.specs.D1.{d1Words}
-use Rattle.promises.proofs.SmallDays.{computing, still, d1-lent, still-lent, d1-plain, still-plain}
+use Rattle.promises.proofs.SmallDays.{computing, still, d1-lent, still-lent, d1-plain, still-plain, triple, couple, d1-groups, allFour}
 
 -- a record of the same order, span and members is the same
 same-core : (c d : SpanCore) → Has d (c .order) (c .first) (c .last) → d .members ≡ c .members → d ≡ c
@@ -75,25 +75,18 @@ group-twice xs ys zs c s = s .once xs ys zs c c refl (record { its-order = refl;
 pub order-zero : {n T : ℕ} {ws : List ℕ} {base : ℕ} {least : Thresholds} (xs : List SpanCore) → GroupStatement n T ws base least xs → (c : SpanCore) → Mem c xs → c .order ≡ 0 → ⊥
 order-zero xs s c i e = omega (arith, s .order c i)
 
--- D1's groups
-abbrev triple : SpanCore
-triple = record { order = 2; first = 0; last = 1; members = 7 }
-
-abbrev couple : SpanCore
-couple = record { order = 1; first = 0; last = 2; members = 12 }
-
-d1-groups : kept plain (groupsOf 4 3 d1Words) ≡ triple ∷ couple ∷ []
-unfolding computing
-d1-groups = refl
+-- the plain report keeps both of D1's groups
+d1-kept : kept plain (groupsOf 4 3 d1Words) ≡ triple ∷ couple ∷ []
+d1-kept = kept-plain d1-lent ∙ d1-groups
 
 -- a list of which D1's statement holds has the first,
 d1-triple : (xs : List SpanCore) → GroupStatement 4 3 d1Words (full 4) plain xs → Mem triple xs
-d1-triple xs s = stated-same (kept plain (groupsOf 4 3 d1Words)) xs (groups-stated 4 3 d1Words plain d1-lent) s triple (rw d1-groups (List·Memᴰ·head refl))
+d1-triple xs s = stated-same (kept plain (groupsOf 4 3 d1Words)) xs (groups-stated 4 3 d1Words plain d1-lent) s triple (rw d1-kept (List·Memᴰ·head refl))
 
 -- and no group of D1 has other members than these two
 d1-members : (c : SpanCore) → Mem c (kept plain (groupsOf 4 3 d1Words)) → (c .members ≡ 7) ⊎ (c .members ≡ 12)
 d1-members c i = ⊎-elim (λ e. inl (ap (λ (x : SpanCore). x .members) e)) (λ j. inr (ap (λ (x : SpanCore). x .members) (List·Memᴰ·eq-of-singleton j)))
-    (List·Memᴰ·cases-cons (rw d1-groups at i))
+    (List·Memᴰ·cases-cons (rw d1-kept at i))
 
 -- a report that has this group has more than 10 bytes
 longer : (xs : List SpanCore) → Mem triple xs → 10 < length (reportBytes 4 3 xs)
@@ -112,13 +105,10 @@ empty-report call groups e p =
 
 -- D1's report without its second group
 pub second-left-out : GroupStatement 4 3 d1Words (full 4) plain (triple ∷ []) → ⊥
-second-left-out s = group-left-out (triple ∷ []) s d1-lent couple (rw d1-groups (List·Memᴰ·tail (List·Memᴰ·head refl)))
+second-left-out s = group-left-out (triple ∷ []) s d1-lent couple (rw d1-kept (List·Memᴰ·tail (List·Memᴰ·head refl)))
     (λ i. let z : _≡_ {A = ℕ} 12 7 = ap (λ (x : SpanCore). x .members) (List·Memᴰ·eq-of-singleton i) in omega arith)
 
 -- D1's report with the core of order 1 on 0 to 1, which is not maximal, among its records: wherever it stands, and so added once, and twice
-abbrev allFour : SpanCore
-allFour = record { order = 1; first = 0; last = 1; members = 15 }
-
 pub core-not-maximal : (xs : List SpanCore) → GroupStatement 4 3 d1Words (full 4) plain xs → Mem allFour xs → ⊥
 core-not-maximal xs s i = not-maximal xs s d1-lent allFour i (λ j. ⊎-elim (λ e. omega arith) (λ e. omega arith) (d1-members allFour j))
 
@@ -135,14 +125,15 @@ fewer = record { order = 2; first = 0; last = 1; members = 3 }
 pub fewer-members : (xs : List SpanCore) → GroupStatement 4 3 d1Words (full 4) plain xs → Mem fewer xs → ⊥
 fewer-members xs s i = not-maximal xs s d1-lent fewer i (λ j. ⊎-elim (λ e. omega arith) (λ e. omega arith) (d1-members fewer j))
 
+-- a list without members is empty
+pub empty : (xs : List SpanCore) → ((c : SpanCore) → Mem c xs → ⊥) → xs ≡ []
+empty [] h = refl
+empty (c ∷ xs) h = absurd (h c (List·Memᴰ·head refl))
+
 -- a day without contacts has no groups
 none-still : {call : ℕ → ℕ → List ℕ → Thresholds → List ℕ → Delivered} {groups : ℕ → ℕ → List ℕ → Thresholds → List SpanCore} → ReportsGroups call groups → groups 4 3 still plain ≡ []
 unfolding computing
 none-still {call} {groups} p = empty (groups 4 3 still plain) (λ c i. List·Memᴰ·not-nil (stated-same (groups 4 3 still plain) [] (p .stated 4 3 still plain still-plain) (groups-stated 4 3 still plain still-lent) c i))
-  where
-    empty : (xs : List SpanCore) → ((c : SpanCore) → Mem c xs → ⊥) → xs ≡ []
-    empty [] h = refl
-    empty (c ∷ xs) h = absurd (h c (List·Memᴰ·head refl))
 
 -- 9 before measuring the answer: judged by any bound that n and T decide. A day without groups has a report of 10 bytes, and D1 a longer one.
 pub bound-before-measuring : (call : ℕ → ℕ → List ℕ → Thresholds → List ℕ → Delivered) (groups : ℕ → ℕ → List ℕ → Thresholds → List SpanCore) (bound : ℕ → ℕ → ℕ)

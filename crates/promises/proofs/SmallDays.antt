@@ -1,6 +1,6 @@
 -- Days of four badges and three ticks, by which substitutes are refuted: document 01's D1, and a day without contacts.
-use mathlib.Core.Path.{refl}
-use mathlib.Core.List.{List}
+use mathlib.Core.Path.{_≡_, refl}
+use mathlib.Core.List.{List, [], _∷_}
 use Prim.Native.Nat.{ℕ}
 use native.Mathlib.Omega.{arith}
 use lib.ListN.{replicate}
@@ -19,7 +19,7 @@ use Rattle.cores.specs.Orders.{largest, coreNumber, contains, score}
 use Rattle.cuts.specs.Sums.{firstGreatest, sumWith, bestSum, endAfter, endsFrom, bestEnds}
 use Rattle.spans.specs.Spans.{isSpan, throughout, spanNeighbours}
 use Rattle.spans.specs.Contacts.{fellows}
-use Rattle.spans.specs.SpanCores.{coreOn, hasCore}
+use Rattle.spans.specs.SpanCores.{SpanCore, coreOn, hasCore}
 use Rattle.spans.specs.Reports.{asLarge, same, isMaximal, isGroup, groupsOn, groupsFrom, groupsOf}
 use Rattle.spans.specs.Thresholds.{plain, inRange, passes, meets, kept}
 use Rattle.spans.specs.GroupStatement.{ReportAsked}
@@ -54,3 +54,18 @@ d1-plain = record { lent = d1-lent; range = refl }
 pub still-plain : ReportAsked 4 3 still plain
 unfolding computing
 still-plain = record { lent = still-lent; range = refl }
+
+-- D1's groups
+abbrev pub triple : SpanCore
+triple = record { order = 2; first = 0; last = 1; members = 7 }
+
+abbrev pub couple : SpanCore
+couple = record { order = 1; first = 0; last = 2; members = 12 }
+
+pub d1-groups : groupsOf 4 3 d1Words ≡ triple ∷ couple ∷ []
+unfolding computing
+d1-groups = refl
+
+-- the core of order 1 on 0 to 1, which is not maximal
+abbrev pub allFour : SpanCore
+allFour = record { order = 1; first = 0; last = 1; members = 15 }

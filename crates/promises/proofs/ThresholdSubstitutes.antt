@@ -1,0 +1,119 @@
+-- Substitutes for the report under thresholds, each refuted on D1 from the promise that the call keeps (GroupReports in groups).
+use mathlib.Core.Path.{_≡_, refl}
+use mathlib.Core.Bool.{Bool, true, false}
+use mathlib.Core.List.{List, [], _∷_, List·Memᴰ·head, List·Memᴰ·tail, List·Memᴰ·not-nil}
+use Prim.Native.Nat.{ℕ, suc, _-_}
+use lib.Dec.{leb}
+use Rattle.sets.specs.Bools.{_and_, _or_, isnt, all}
+use Rattle.sets.specs.Sets.{full}
+use Rattle.sets.specs.Tables.{concatBelow, keepIf}
+use Rattle.sets.proofs.Bools.{clash, same-test}
+use Rattle.log.specs.Buffers.{Delivered}
+use Rattle.spans.specs.declared.thresholds.Thresholds.{Thresholds}
+use Rattle.spans.specs.Spans.{isSpan}
+use Rattle.spans.specs.SpanCores.{SpanCore, Mem, coreOn, hasCore}
+use Rattle.spans.specs.Reports.{asLarge, same, groupsOf}
+use Rattle.spans.specs.Thresholds.{inRange, meets, kept}
+use Rattle.spans.specs.GroupStatement.{GroupStatement}
+use Rattle.spans.proofs.KeptRecords.{in-kept, of-kept}
+use Rattle.spans.proofs.GroupLists.{groups-stated}
+use Rattle.groups.specs.GroupReports.{ReportsGroups}
+use Rattle.promises.specs.D1.{d1Words}
+use Rattle.promises.proofs.SmallDays.{computing, d1-lent, triple, couple, d1-groups, allFour}
+use Rattle.promises.proofs.ReportSubstitutes.{stated-same, empty}
+
+abbrev least : ℕ → ℕ → ℕ → Thresholds
+least ticks order members = record { ticks = ticks; order = order; members = members }
+
+-- A report that judges by other thresholds than those that it is given. Refuted by any thresholds and any group of D1 for which that makes a
+-- difference.
+pub judged-by-others : (other : Thresholds → Thresholds) (given : Thresholds) (c : SpanCore) → inRange given ≡ true → Mem c (groupsOf 4 3 d1Words) → (meets (other given) c ≡ meets given c → ⊥)
+    → (call : ℕ → ℕ → List ℕ → Thresholds → List ℕ → Delivered) → ReportsGroups call (λ n T ws l. kept (other l) (groupsOf n T ws)) → ⊥
+judged-by-others other given c r i h call p =
+    let groups = groupsOf 4 3 d1Words in
+    let x = p .stated 4 3 d1Words given (record { lent = d1-lent; range = r }) in
+    let y = groups-stated 4 3 d1Words given d1-lent in
+    h (same-test (meets (other given) c) (meets given c)
+    (λ e. of-kept given groups (stated-same (kept (other given) groups) (kept given groups) x y c (in-kept (other given) groups i e)) .1)
+    (λ e. of-kept (other given) groups (stated-same (kept given groups) (kept (other given) groups) y x c (in-kept given groups i e)) .1))
+
+triple-there : Mem triple (groupsOf 4 3 d1Words)
+triple-there = rw d1-groups (List·Memᴰ·head refl)
+
+couple-there : Mem couple (groupsOf 4 3 d1Words)
+couple-there = rw d1-groups (List·Memᴰ·tail (List·Memᴰ·head refl))
+
+-- what a report by other thresholds comes to
+abbrev Refuted : (Thresholds → Thresholds) → Type 0
+Refuted other = (call : ℕ → ℕ → List ℕ → Thresholds → List ℕ → Delivered) → ReportsGroups call (λ n T ws l. kept (other l) (groupsOf n T ws)) → ⊥
+
+-- the least length: ignored, one too many, one too few
+pub ticks-ignored : Refuted (λ l. least 1 (l .order) (l .members))
+unfolding computing
+ticks-ignored = judged-by-others _ (least 3 1 2) triple refl triple-there (λ e. clash refl e)
+
+pub ticks-above : Refuted (λ l. least (suc (l .ticks)) (l .order) (l .members))
+unfolding computing
+ticks-above = judged-by-others _ (least 3 1 2) couple refl couple-there (λ e. clash e refl)
+
+pub ticks-below : Refuted (λ l. least (l .ticks - 1) (l .order) (l .members))
+unfolding computing
+ticks-below = judged-by-others _ (least 3 1 2) triple refl triple-there (λ e. clash refl e)
+
+-- the least order
+pub order-ignored : Refuted (λ l. least (l .ticks) 1 (l .members))
+unfolding computing
+order-ignored = judged-by-others _ (least 1 2 2) couple refl couple-there (λ e. clash refl e)
+
+pub order-above : Refuted (λ l. least (l .ticks) (suc (l .order)) (l .members))
+unfolding computing
+order-above = judged-by-others _ (least 1 2 2) triple refl triple-there (λ e. clash e refl)
+
+pub order-below : Refuted (λ l. least (l .ticks) (l .order - 1) (l .members))
+unfolding computing
+order-below = judged-by-others _ (least 1 2 2) couple refl couple-there (λ e. clash refl e)
+
+-- the least number of members
+pub members-ignored : Refuted (λ l. least (l .ticks) (l .order) 2)
+unfolding computing
+members-ignored = judged-by-others _ (least 1 1 3) couple refl couple-there (λ e. clash refl e)
+
+pub members-above : Refuted (λ l. least (l .ticks) (l .order) (suc (l .members)))
+unfolding computing
+members-above = judged-by-others _ (least 1 1 3) triple refl triple-there (λ e. clash e refl)
+
+pub members-below : Refuted (λ l. least (l .ticks) (l .order) (l .members - 1))
+unfolding computing
+members-below = judged-by-others _ (least 1 1 3) couple refl couple-there (λ e. clash refl e)
+
+-- With a least number of 4 members D1 has no record, though order 1 on 0 to 1 has a core of four.
+pub four-none : (xs : List SpanCore) → GroupStatement 4 3 d1Words (full 4) (least 1 1 4) xs → xs ≡ []
+unfolding computing
+four-none xs s = empty xs (λ c i. List·Memᴰ·not-nil (stated-same xs [] s (groups-stated 4 3 d1Words (least 1 1 4) d1-lent) c i))
+
+-- Domination judged among the records that pass: of the cores that meet the thresholds, those are kept that no other of these has order and span at
+-- least as large as.
+unfoldable pub coreAt : ℕ → List ℕ → ℕ → ℕ → ℕ → SpanCore
+coreAt n ws k first last = record { order = k; first = first; last = last; members = coreOn n ws k first last }
+
+unfoldable pub passing : ℕ → List ℕ → Thresholds → ℕ → ℕ → ℕ → Bool
+passing n ws l k first last = leb 1 k and hasCore n ws k first last and meets l (coreAt n ws k first last)
+
+unfoldable pub undominated : ℕ → ℕ → List ℕ → Thresholds → ℕ → ℕ → ℕ → Bool
+undominated n T ws l k first last = all (suc n) (λ k′. all T (λ first′. all T (λ last′.
+    isnt (isSpan T first′ last′ and asLarge k first last k′ first′ last′ and passing n ws l k′ first′ last′) or same k first last k′ first′ last′)))
+
+unfoldable pub filteredFirst : ℕ → ℕ → List ℕ → Thresholds → List SpanCore
+filteredFirst n T ws l = concatBelow T (λ first. concatBelow T (λ last. concatBelow (suc n) (λ k.
+    keepIf (leb first last and passing n ws l k first last and undominated n T ws l k first last) (coreAt n ws k first last ∷ []))))
+
+shows-four : filteredFirst 4 3 d1Words (least 1 1 4) ≡ allFour ∷ []
+unfolding computing filteredFirst undominated passing coreAt
+shows-four = refl
+
+pub domination-after-filter : (call : ℕ → ℕ → List ℕ → Thresholds → List ℕ → Delivered) → ReportsGroups call filteredFirst → ⊥
+unfolding computing
+domination-after-filter call p =
+    let none = four-none _ (p .stated 4 3 d1Words (least 1 1 4) (record { lent = d1-lent; range = refl })) in
+    let there : Mem allFour (filteredFirst 4 3 d1Words (least 1 1 4)) = rw shows-four (List·Memᴰ·head refl) in
+    List·Memᴰ·not-nil (rw none at there)
