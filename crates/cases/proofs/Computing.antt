@@ -24,7 +24,7 @@ use Rattle.cuts.specs.Sums.{firstGreatest, sumWith, bestSum, endAfter, endsFrom
 use Rattle.spans.specs.Spans.{isSpan, throughout, spanNeighbours}
 use Rattle.spans.specs.SpanCores.{coreOn, hasCore}
 use Rattle.spans.specs.Reports.{asLarge, same, isMaximal, isGroup, groupsOn, groupsFrom, groupsOf}
-use Rattle.spans.specs.Thresholds.{inRange, passes, meets, kept}
+use Rattle.spans.specs.Thresholds.{inRange, areEnough, meets, kept}
 use Rattle.spans.specs.Plans.{scoreOn, membersOn, partOn, partsFrom, isQuery, isParts}
 use Rattle.spans.specs.Encoding.{encodeCore, encodeCores, reportBytes, planBytes}
 use Rattle.groups.specs.Calls.{coreNumberBytes, spanJudged, coreNumbersOf, reportJudged, reportOf, planJudged, planOf}
@@ -51,7 +51,7 @@ log-computing = 0
 
 -- cores, cuttings, and the calls of the group part
 groups-computing : ℕ
-unfolding log-computing degree strip strips core largest coreNumber contains score total firstGreatest sumWith bestSum endAfter endsFrom bestEnds isSpan throughout spanNeighbours coreOn hasCore asLarge same isMaximal isGroup groupsOn groupsFrom groupsOf inRange passes meets kept scoreOn membersOn partOn partsFrom isQuery isParts encodeCore encodeCores reportBytes planBytes coreNumberBytes spanJudged coreNumbersOf reportJudged reportOf planJudged planOf
+unfolding log-computing degree strip strips core largest coreNumber contains score total firstGreatest sumWith bestSum endAfter endsFrom bestEnds isSpan throughout spanNeighbours coreOn hasCore asLarge same isMaximal isGroup groupsOn groupsFrom groupsOf inRange areEnough meets kept scoreOn membersOn partOn partsFrom isQuery isParts encodeCore encodeCores reportBytes planBytes coreNumberBytes spanJudged coreNumbersOf reportJudged reportOf planJudged planOf
 groups-computing = 0
 
 -- the listing

@@ -12,7 +12,6 @@ mod refusal;
 mod reporting;
 mod rows;
 mod scoring;
-mod thresholds;
 
 pub use answer::Written;
 pub use numbers::core_numbers;

@@ -23,14 +23,13 @@ use crate::encoding::Shown;
 use crate::encoding::append_record;
 use crate::lines::find_line;
 use crate::refusal::Refusal;
-use crate::thresholds::in_range;
-use crate::thresholds::meets;
 use log::Checked;
 use log::Record;
 use log::check_words;
 use log::put;
 use log::put_record;
 use sets::BadgeSet;
+use sets::widen;
 use spans::Thresholds;
 
 // Appends a group's record if it has members, its order is above the next, else the span that is one tick longer at its end has a core of the
@@ -46,7 +45,11 @@ fn append_group(buffer: &mut [u8], count: usize, group: Shown, next: u8, least: 
     if group.order <= next {
         return count;
     }
-    if !meets(group, least) {
+    if !least.met_by(
+        widen(group.last - group.first) + 1,
+        widen(group.order),
+        members,
+    ) {
         return count;
     }
     append_record(buffer, 4, count, b'G', b'R', group)
@@ -123,7 +126,7 @@ fn report_day(
     ensures answer { λ r. ⌜ writtenOutcome r ≡ deliver (reportJudged badges ticks (now (words .entry)) least) (now (buffer .entry)) .answer ⌝ }
     ensures leaves { λ _. ⌜ now (buffer .exit) ≡ deliver (reportJudged badges ticks (now (words .entry)) least) (now (buffer .entry)) .buffer ⌝ }
 {
-    if !in_range(least) {
+    if !least.in_range() {
         return Written::Refused(Refusal::ThresholdOutOfRange);
     }
     let mut bytes = [0u8; 60538];

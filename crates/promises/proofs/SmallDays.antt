@@ -21,7 +21,7 @@ use Rattle.spans.specs.Spans.{isSpan, throughout, spanNeighbours}
 use Rattle.spans.specs.Contacts.{fellows}
 use Rattle.spans.specs.SpanCores.{SpanCore, coreOn, hasCore}
 use Rattle.spans.specs.Reports.{asLarge, same, isMaximal, isGroup, groupsOn, groupsFrom, groupsOf}
-use Rattle.spans.specs.Thresholds.{plain, inRange, passes, meets, kept}
+use Rattle.spans.specs.Thresholds.{plain, inRange, areEnough, meets, kept}
 use Rattle.spans.specs.GroupStatement.{ReportAsked}
 use Rattle.spans.specs.Plans.{scoreOn, partOn, partsFrom}
 use Rattle.spans.specs.PlanStatement.{sumOfOrders}
@@ -34,7 +34,7 @@ still = replicate 12 0
 
 -- all that is computed with
 unfoldable pub computing : ℕ
-unfolding badges d1Words still _and_ _or_ isnt all bit intersection setOf full filterIn filter sizeIn size tabulate withinLimits refuseIf andThen neighbours adjacent isTick isDay deliver checkOf degree strip strips core largest coreNumber isSpan throughout spanNeighbours coreNumberBytes spanJudged coreNumbersOf concatBelow keepIf coreOn hasCore asLarge same isMaximal isGroup groupsOn groupsFrom groupsOf inRange passes meets kept isSub contains score scoreOn partOn partsFrom fellows firstGreatest sumWith bestSum endAfter endsFrom bestEnds sumOfOrders
+unfolding badges d1Words still _and_ _or_ isnt all bit intersection setOf full filterIn filter sizeIn size tabulate withinLimits refuseIf andThen neighbours adjacent isTick isDay deliver checkOf degree strip strips core largest coreNumber isSpan throughout spanNeighbours coreNumberBytes spanJudged coreNumbersOf concatBelow keepIf coreOn hasCore asLarge same isMaximal isGroup groupsOn groupsFrom groupsOf inRange areEnough meets kept isSub contains score scoreOn partOn partsFrom fellows firstGreatest sumWith bestSum endAfter endsFrom bestEnds sumOfOrders
 computing = 0
 
 -- both are lent days

@@ -17,17 +17,25 @@ use Rattle.records.specs.Limits.{maxBadges, maxTicks}
 use Rattle.spans.specs.declared.thresholds.Thresholds.{Thresholds}
 use Rattle.spans.specs.Spans.{spanTicks}
 use Rattle.spans.specs.SpanCores.{SpanCore, Mem}
-use Rattle.spans.specs.Thresholds.{inRange, passes, meets, kept}
+use Rattle.spans.specs.Thresholds.{inRange, areEnough, meets, kept}
 
 module _ (least : Thresholds) where
-  -- a record meets all three exactly when its length, its order and the number of its members are enough
+  -- three numbers are enough exactly when none is below its threshold, and so it is with those of a record
+  pub enough-in : {ticks order members : ℕ} → least .ticks ≤ ticks → least .order ≤ order → least .members ≤ members → areEnough least ticks order members ≡ true
+  unfolding areEnough
+  enough-in h k m = and-in _ _ (and-in _ _ (le-leb _ _ h) (le-leb _ _ k)) (le-leb _ _ m)
+
+  pub enough-of : {ticks order members : ℕ} → areEnough least ticks order members ≡ true → (least .ticks ≤ ticks) × (least .order ≤ order) × (least .members ≤ members)
+  unfolding areEnough
+  enough-of e = let p = and-left _ _ e in (leb-true _ _ (and-left _ _ p), leb-true _ _ (and-right _ _ p), leb-true _ _ (and-right _ _ e))
+
   pub meets-in : (c : SpanCore) → least .ticks ≤ spanTicks (c .first) (c .last) → least .order ≤ c .order → least .members ≤ size (c .members) → meets least c ≡ true
-  unfolding meets passes
-  meets-in c h k m = and-in _ _ (and-in _ _ (le-leb _ _ h) (le-leb _ _ k)) (le-leb _ _ m)
+  unfolding meets
+  meets-in c h k m = enough-in h k m
 
   pub meets-of : (c : SpanCore) → meets least c ≡ true → (least .ticks ≤ spanTicks (c .first) (c .last)) × (least .order ≤ c .order) × (least .members ≤ size (c .members))
-  unfolding meets passes
-  meets-of c e = let p = and-left _ _ e in (leb-true _ _ (and-left _ _ p), leb-true _ _ (and-right _ _ p), leb-true _ _ (and-right _ _ e))
+  unfolding meets
+  meets-of c e = enough-of e
 
   -- a record is kept exactly when it is there and meets all three
   pub in-kept : (cs : List SpanCore) {c : SpanCore} → Mem c cs → meets least c ≡ true → Mem c (kept least cs)

@@ -2,7 +2,7 @@
 -- report that meet all three, in their order."
 use mathlib.Core.Bool.{Bool}
 use mathlib.Core.List.{List, [], _∷_, _++_}
-use Prim.Native.Nat.{_-_}
+use Prim.Native.Nat.{ℕ, _-_}
 use lib.Dec.{leb}
 use Rattle.sets.specs.Bools.{_and_}
 use Rattle.sets.specs.Sets.{size}
@@ -23,12 +23,12 @@ inRange least =
     and (leb 1 (least .order) and leb (least .order) (maxBadges - 1))
     and (leb 2 (least .members) and leb (least .members) maxBadges)
 
--- a record meets least length and least order, and all three
-unfoldable pub passes : Thresholds → SpanCore → Bool
-passes least c = leb (least .ticks) (spanTicks (c .first) (c .last)) and leb (least .order) (c .order)
+-- so many ticks, an order and so many members are enough, and so are those of a record
+unfoldable pub areEnough : Thresholds → ℕ → ℕ → ℕ → Bool
+areEnough least ticks order members = leb (least .ticks) ticks and leb (least .order) order and leb (least .members) members
 
 unfoldable pub meets : Thresholds → SpanCore → Bool
-meets least c = passes least c and leb (least .members) (size (c .members))
+meets least c = areEnough least (spanTicks (c .first) (c .last)) (c .order) (size (c .members))
 
 -- the records of a list that do, in their order
 unfoldable pub kept : Thresholds → List SpanCore → List SpanCore

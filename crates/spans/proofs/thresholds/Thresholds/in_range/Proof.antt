@@ -1,11 +1,11 @@
--- `in_range` meets its contract: each number that is too small or too large fails the test, and all others pass it.
+-- `Thresholds::in_range` meets its contract: each number that is too small or too large fails the test, and all others pass it.
 use mathlib.Core.Path.{sym}
 use native.Mathlib.Omega.{arith}
 use borrow.Author.Needs.{needs}
 use Rattle.sets.proofs.Bools.{to-false}
 use Rattle.spans.proofs.KeptRecords.{ranges-of, ranges-in}
-use Rattle.groups.proofs.thresholds.in_range.Statement.{statement}
-use Rattle.groups.proofs.thresholds.in_range.Tie as tie
+use Rattle.spans.proofs.thresholds.Thresholds.in_range.Statement.{statement}
+use Rattle.spans.proofs.thresholds.Thresholds.in_range.Tie as tie
 
 returns : tie.Need-returns
 returns c = sym (to-false _ (λ e. omega (arith, ranges-of _ e, c .if1 .taken)))
