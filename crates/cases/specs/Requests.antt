@@ -2,15 +2,11 @@
 use mathlib.Core.List.{List, [], _∷_, _++_}
 use Prim.Native.Nat.{ℕ}
 use Rattle.records.specs.Outcomes.{refused, success}
-use Rattle.spans.specs.declared.thresholds.Thresholds.{Thresholds}
+use Rattle.spans.specs.Thresholds.{leastOf}
 use Rattle.promises.specs.D1.{badges, d1Words}
 use Rattle.cases.specs.RecordBytes.{ED, RH, GR}
 use Rattle.cases.specs.Rows.{Row, report, length-of}
 use Rattle.cases.specs.Table.{sevens}
-
--- the least length in ticks, order and number of members
-abbrev pub least : ℕ → ℕ → ℕ → Thresholds
-least ticks order members = record { ticks = ticks; order = order; members = members }
 
 -- reports of D1 that keep one of its two groups, "order 2, 0 to 1, {0,1,2}" and "order 1, 0 to 2, {2,3}", and none
 unfoldable pub triple : List ℕ
@@ -25,28 +21,28 @@ nobody = RH 4 3 ++ ED 0
 unfoldable pub requested : List Row
 requested =
     -- "One. Thresholds. .. It keeps the records of the full report that meet all three, in their order"
-    report 4 3 d1Words (least 3 1 2) (sevens 23) (success 23) couple
-    ∷ report 4 3 d1Words (least 1 2 2) (sevens 23) (success 23) triple
-    ∷ report 4 3 d1Words (least 1 1 3) (sevens 23) (success 23) triple
+    report 4 3 d1Words (leastOf 3 1 2) (sevens 23) (success 23) couple
+    ∷ report 4 3 d1Words (leastOf 1 2 2) (sevens 23) (success 23) triple
+    ∷ report 4 3 d1Words (leastOf 1 1 3) (sevens 23) (success 23) triple
     -- "domination is judged before the filter": order 1 on 0 to 1 has a core of four, but order 1 on 0 to 2 has one, too
-    ∷ report 4 3 d1Words (least 1 1 4) (sevens 10) (success 10) nobody
+    ∷ report 4 3 d1Words (leastOf 1 1 4) (sevens 10) (success 10) nobody
     ∷ length-of nobody 10
     -- the ranges do not depend on the day
-    ∷ report 4 3 d1Words (least 96 63 64) (sevens 10) (success 10) nobody
+    ∷ report 4 3 d1Words (leastOf 96 63 64) (sevens 10) (success 10) nobody
     -- the buffer is measured against what is kept: a byte less than the plain report, and a byte less than this one
-    ∷ report 4 3 d1Words (least 3 1 2) (sevens 35) (success 23) (couple ++ sevens 12)
-    ∷ report 4 3 d1Words (least 3 1 2) (sevens 22) (refused 9 0) (sevens 22)
+    ∷ report 4 3 d1Words (leastOf 3 1 2) (sevens 35) (success 23) (couple ++ sevens 12)
+    ∷ report 4 3 d1Words (leastOf 3 1 2) (sevens 22) (refused 9 0) (sevens 22)
     -- "17, a threshold outside its range": too small, and one above each limit
-    ∷ report 4 3 d1Words (least 0 1 2) (sevens 36) (refused 17 0) (sevens 36)
-    ∷ report 4 3 d1Words (least 97 1 2) (sevens 36) (refused 17 0) (sevens 36)
-    ∷ report 4 3 d1Words (least 1 0 2) (sevens 36) (refused 17 0) (sevens 36)
-    ∷ report 4 3 d1Words (least 1 64 2) (sevens 36) (refused 17 0) (sevens 36)
-    ∷ report 4 3 d1Words (least 1 1 0) (sevens 36) (refused 17 0) (sevens 36)
-    ∷ report 4 3 d1Words (least 1 1 1) (sevens 36) (refused 17 0) (sevens 36)
-    ∷ report 4 3 d1Words (least 1 1 65) (sevens 36) (refused 17 0) (sevens 36)
+    ∷ report 4 3 d1Words (leastOf 0 1 2) (sevens 36) (refused 17 0) (sevens 36)
+    ∷ report 4 3 d1Words (leastOf 97 1 2) (sevens 36) (refused 17 0) (sevens 36)
+    ∷ report 4 3 d1Words (leastOf 1 0 2) (sevens 36) (refused 17 0) (sevens 36)
+    ∷ report 4 3 d1Words (leastOf 1 64 2) (sevens 36) (refused 17 0) (sevens 36)
+    ∷ report 4 3 d1Words (leastOf 1 1 0) (sevens 36) (refused 17 0) (sevens 36)
+    ∷ report 4 3 d1Words (leastOf 1 1 1) (sevens 36) (refused 17 0) (sevens 36)
+    ∷ report 4 3 d1Words (leastOf 1 1 65) (sevens 36) (refused 17 0) (sevens 36)
     -- "after 11 and before 9"
-    ∷ report 4 3 d1Words (least 0 1 2) (sevens 3) (refused 17 0) (sevens 3)
-    ∷ report 4 3 (sevens 12) (least 0 1 2) (sevens 36) (refused 11 0) (sevens 36)
-    ∷ report 4 3 (sevens 11) (least 0 1 2) (sevens 36) (refused 8 0) (sevens 36)
-    ∷ report 4 0 [] (least 0 1 2) (sevens 36) (refused 10 0) (sevens 36)
+    ∷ report 4 3 d1Words (leastOf 0 1 2) (sevens 3) (refused 17 0) (sevens 3)
+    ∷ report 4 3 (sevens 12) (leastOf 0 1 2) (sevens 36) (refused 11 0) (sevens 36)
+    ∷ report 4 3 (sevens 11) (leastOf 0 1 2) (sevens 36) (refused 8 0) (sevens 36)
+    ∷ report 4 0 [] (leastOf 0 1 2) (sevens 36) (refused 10 0) (sevens 36)
     ∷ []

@@ -29,7 +29,7 @@ use Rattle.spans.specs.SpanCores.{SpanCore, coreOn}
 use Rattle.spans.specs.Reports.{groupsOf}
 use Rattle.spans.specs.Thresholds.{plain, inRange, kept}
 use Rattle.spans.specs.Encoding.{reportBytes, reportRecords}
-use Rattle.spans.specs.GroupStatement.{GroupStatement, ReportAsked}
+use Rattle.spans.specs.GroupStatement.{GroupStatement}
 use Rattle.spans.proofs.Decoding.{report-said}
 use Rattle.spans.proofs.MostGroups.{groups-few}
 use Rattle.spans.proofs.KeptRecords.{of-kept, kept-le}

@@ -1,6 +1,6 @@
 -- Substitutes for the report under thresholds, each refuted on D1 from the promise that the call keeps (GroupReports in groups).
 use mathlib.Core.Path.{_≡_, refl}
-use mathlib.Core.Bool.{Bool, true, false}
+use mathlib.Core.Bool.{Bool, true}
 use mathlib.Core.List.{List, [], _∷_, List·Memᴰ·head, List·Memᴰ·tail, List·Memᴰ·not-nil}
 use Prim.Native.Nat.{ℕ, suc, _-_}
 use lib.Dec.{leb}
@@ -13,7 +13,7 @@ use Rattle.spans.specs.declared.thresholds.Thresholds.{Thresholds}
 use Rattle.spans.specs.Spans.{isSpan}
 use Rattle.spans.specs.SpanCores.{SpanCore, Mem, coreOn, hasCore}
 use Rattle.spans.specs.Reports.{asLarge, same, groupsOf}
-use Rattle.spans.specs.Thresholds.{inRange, meets, kept}
+use Rattle.spans.specs.Thresholds.{leastOf, inRange, meets, kept}
 use Rattle.spans.specs.GroupStatement.{GroupStatement}
 use Rattle.spans.proofs.KeptRecords.{in-kept, of-kept}
 use Rattle.spans.proofs.GroupLists.{groups-stated}
@@ -21,9 +21,6 @@ use Rattle.groups.specs.GroupReports.{ReportsGroups}
 use Rattle.promises.specs.D1.{d1Words}
 use Rattle.promises.proofs.SmallDays.{computing, d1-lent, triple, couple, d1-groups, allFour}
 use Rattle.promises.proofs.ReportSubstitutes.{stated-same, empty}
-
-abbrev least : ℕ → ℕ → ℕ → Thresholds
-least ticks order members = record { ticks = ticks; order = order; members = members }
 
 -- A report that judges by other thresholds than those that it is given. Refuted by any thresholds and any group of D1 for which that makes a
 -- difference.
@@ -48,48 +45,48 @@ abbrev Refuted : (Thresholds → Thresholds) → Type 0
 Refuted other = (call : ℕ → ℕ → List ℕ → Thresholds → List ℕ → Delivered) → ReportsGroups call (λ n T ws l. kept (other l) (groupsOf n T ws)) → ⊥
 
 -- the least length: ignored, one too many, one too few
-pub ticks-ignored : Refuted (λ l. least 1 (l .order) (l .members))
+pub ticks-ignored : Refuted (λ l. leastOf 1 (l .order) (l .members))
 unfolding computing
-ticks-ignored = judged-by-others _ (least 3 1 2) triple refl triple-there (λ e. clash refl e)
+ticks-ignored = judged-by-others _ (leastOf 3 1 2) triple refl triple-there (λ e. clash refl e)
 
-pub ticks-above : Refuted (λ l. least (suc (l .ticks)) (l .order) (l .members))
+pub ticks-above : Refuted (λ l. leastOf (suc (l .ticks)) (l .order) (l .members))
 unfolding computing
-ticks-above = judged-by-others _ (least 3 1 2) couple refl couple-there (λ e. clash e refl)
+ticks-above = judged-by-others _ (leastOf 3 1 2) couple refl couple-there (λ e. clash e refl)
 
-pub ticks-below : Refuted (λ l. least (l .ticks - 1) (l .order) (l .members))
+pub ticks-below : Refuted (λ l. leastOf (l .ticks - 1) (l .order) (l .members))
 unfolding computing
-ticks-below = judged-by-others _ (least 3 1 2) triple refl triple-there (λ e. clash refl e)
+ticks-below = judged-by-others _ (leastOf 3 1 2) triple refl triple-there (λ e. clash refl e)
 
 -- the least order
-pub order-ignored : Refuted (λ l. least (l .ticks) 1 (l .members))
+pub order-ignored : Refuted (λ l. leastOf (l .ticks) 1 (l .members))
 unfolding computing
-order-ignored = judged-by-others _ (least 1 2 2) couple refl couple-there (λ e. clash refl e)
+order-ignored = judged-by-others _ (leastOf 1 2 2) couple refl couple-there (λ e. clash refl e)
 
-pub order-above : Refuted (λ l. least (l .ticks) (suc (l .order)) (l .members))
+pub order-above : Refuted (λ l. leastOf (l .ticks) (suc (l .order)) (l .members))
 unfolding computing
-order-above = judged-by-others _ (least 1 2 2) triple refl triple-there (λ e. clash e refl)
+order-above = judged-by-others _ (leastOf 1 2 2) triple refl triple-there (λ e. clash e refl)
 
-pub order-below : Refuted (λ l. least (l .ticks) (l .order - 1) (l .members))
+pub order-below : Refuted (λ l. leastOf (l .ticks) (l .order - 1) (l .members))
 unfolding computing
-order-below = judged-by-others _ (least 1 2 2) couple refl couple-there (λ e. clash refl e)
+order-below = judged-by-others _ (leastOf 1 2 2) couple refl couple-there (λ e. clash refl e)
 
 -- the least number of members
-pub members-ignored : Refuted (λ l. least (l .ticks) (l .order) 2)
+pub members-ignored : Refuted (λ l. leastOf (l .ticks) (l .order) 2)
 unfolding computing
-members-ignored = judged-by-others _ (least 1 1 3) couple refl couple-there (λ e. clash refl e)
+members-ignored = judged-by-others _ (leastOf 1 1 3) couple refl couple-there (λ e. clash refl e)
 
-pub members-above : Refuted (λ l. least (l .ticks) (l .order) (suc (l .members)))
+pub members-above : Refuted (λ l. leastOf (l .ticks) (l .order) (suc (l .members)))
 unfolding computing
-members-above = judged-by-others _ (least 1 1 3) triple refl triple-there (λ e. clash e refl)
+members-above = judged-by-others _ (leastOf 1 1 3) triple refl triple-there (λ e. clash e refl)
 
-pub members-below : Refuted (λ l. least (l .ticks) (l .order) (l .members - 1))
+pub members-below : Refuted (λ l. leastOf (l .ticks) (l .order) (l .members - 1))
 unfolding computing
-members-below = judged-by-others _ (least 1 1 3) couple refl couple-there (λ e. clash refl e)
+members-below = judged-by-others _ (leastOf 1 1 3) couple refl couple-there (λ e. clash refl e)
 
 -- With a least number of 4 members D1 has no record, though order 1 on 0 to 1 has a core of four.
-pub four-none : (xs : List SpanCore) → GroupStatement 4 3 d1Words (full 4) (least 1 1 4) xs → xs ≡ []
+pub four-none : (xs : List SpanCore) → GroupStatement 4 3 d1Words (full 4) (leastOf 1 1 4) xs → xs ≡ []
 unfolding computing
-four-none xs s = empty xs (λ c i. List·Memᴰ·not-nil (stated-same xs [] s (groups-stated 4 3 d1Words (least 1 1 4) d1-lent) c i))
+four-none xs s = empty xs (λ c i. List·Memᴰ·not-nil (stated-same xs [] s (groups-stated 4 3 d1Words (leastOf 1 1 4) d1-lent) c i))
 
 -- Domination judged among the records that pass: of the cores that meet the thresholds, those are kept that no other of these has order and span at
 -- least as large as.
@@ -107,13 +104,13 @@ unfoldable pub filteredFirst : ℕ → ℕ → List ℕ → Thresholds → List 
 filteredFirst n T ws l = concatBelow T (λ first. concatBelow T (λ last. concatBelow (suc n) (λ k.
     keepIf (leb first last and passing n ws l k first last and undominated n T ws l k first last) (coreAt n ws k first last ∷ []))))
 
-shows-four : filteredFirst 4 3 d1Words (least 1 1 4) ≡ allFour ∷ []
+shows-four : filteredFirst 4 3 d1Words (leastOf 1 1 4) ≡ allFour ∷ []
 unfolding computing filteredFirst undominated passing coreAt
 shows-four = refl
 
 pub domination-after-filter : (call : ℕ → ℕ → List ℕ → Thresholds → List ℕ → Delivered) → ReportsGroups call filteredFirst → ⊥
 unfolding computing
 domination-after-filter call p =
-    let none = four-none _ (p .stated 4 3 d1Words (least 1 1 4) (record { lent = d1-lent; range = refl })) in
-    let there : Mem allFour (filteredFirst 4 3 d1Words (least 1 1 4)) = rw shows-four (List·Memᴰ·head refl) in
+    let none = four-none _ (p .stated 4 3 d1Words (leastOf 1 1 4) (record { lent = d1-lent; range = refl })) in
+    let there : Mem allFour (filteredFirst 4 3 d1Words (leastOf 1 1 4)) = rw shows-four (List·Memᴰ·head refl) in
     List·Memᴰ·not-nil (rw none at there)

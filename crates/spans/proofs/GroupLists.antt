@@ -128,14 +128,14 @@ module _ {n T : ℕ} {ws : List ℕ} (lent : LentDay n T ws) (least : Thresholds
   shown-order : {c : SpanCore} → Shown n T ws c → OfOrder n ws (full n) (c .order) (c .first) (c .last) (c .members)
   shown-order {c} s = rw (s .members) (has-order (span lent (s .rising) (s .inside)) (c .order) (group-parts n T ws _ _ _ (s .group) .1))
 
-  enough-of : (c : SpanCore) → Shown n T ws c → meets least c ≡ true → Unsurpassed n T ws (full n) (c .order) (c .first) (c .last) × LargeEnough n ws (full n) least (c .order) (c .first) (c .last)
-  enough-of c s e =
+  passes-of : (c : SpanCore) → Shown n T ws c → meets least c ≡ true → Unsurpassed n T ws (full n) (c .order) (c .first) (c .last) × LargeEnough n ws (full n) least (c .order) (c .first) (c .last)
+  passes-of c s e =
       let m = meets-of least c e in
       (unsurpassed-of lent (c .order) (c .first) (c .last) (s .rising) (s .inside) (s .group), record { long = m .0; high = m .1; many = (c .members, shown-order s, m .2) })
 
-  enough-in : (k first last : ℕ) → first ≤ last → last < T → LargeEnough n ws (full n) least k first last
+  passes-in : (k first last : ℕ) → first ≤ last → last < T → LargeEnough n ws (full n) least k first last
       → meets least (record { order = k; first = first; last = last; members = coreOn n ws k first last }) ≡ true
-  enough-in k first last m w e =
+  passes-in k first last m w e =
       let s = e .many in
       meets-in least _ (e .long) (e .high) (omega (arith, s .2, size-mono (order-sub (span lent m w) k (s .0) (s .1))))
 
@@ -145,10 +145,10 @@ groups-stated n T ws least lent = record {
   order = λ c i. group-parts n T ws _ _ _ (shown c i .group) .0;
   span = λ c i. (shown c i .rising, shown c i .inside);
   exactly = λ k first last l m w. (
-    λ x. let e = enough-of lent least (x .0) (shown (x .0) (x .1)) (of-kept least _ (x .1) .1) in let h = x .2 in rw (h .its-order, h .its-first, h .its-last) at e,
+    λ x. let e = passes-of lent least (x .0) (shown (x .0) (x .1)) (of-kept least _ (x .1) .1) in let h = x .2 in rw (h .its-order, h .its-first, h .its-last) at e,
     λ u. (
       record { order = k; first = first; last = last; members = coreOn n ws k first last },
-      in-kept least _ (in-groups n T ws k first last m w (unsurpassed-in lent k first last l m w (u .0))) (enough-in lent least k first last m w (u .1)),
+      in-kept least _ (in-groups n T ws k first last m w (unsurpassed-in lent k first last l m w (u .0))) (passes-in lent least k first last m w (u .1)),
       record { its-order = refl; its-first = refl; its-last = refl },
     ),
   );

@@ -12,9 +12,13 @@ use Rattle.spans.specs.declared.thresholds.Thresholds.{Thresholds}
 use Rattle.spans.specs.Spans.{spanTicks}
 use Rattle.spans.specs.SpanCores.{SpanCore}
 
+-- the least length in ticks, order and number of members
+abbrev pub leastOf : ℕ → ℕ → ℕ → Thresholds
+leastOf ticks order members = record { ticks = ticks; order = order; members = members }
+
 -- "With 1, 1 and 2 it is the plain report."
 abbrev pub plain : Thresholds
-plain = record { ticks = 1; order = 1; members = 2 }
+plain = leastOf 1 1 2
 
 -- each of the three is within its range, which does not depend on the day
 unfoldable pub inRange : Thresholds → Bool

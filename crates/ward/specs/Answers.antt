@@ -4,7 +4,6 @@ use mathlib.Core.List.{List, [], _∷_}
 use Prim.Native.Nat.{ℕ}
 use Rattle.records.specs.Outcomes.{Outcome, refused, success}
 use Rattle.records.specs.Verdicts.{Values}
-use Rattle.spans.specs.declared.thresholds.Thresholds.{Thresholds}
 
 abbrev pub answerOf : {A : Type 0} → (A → List ℕ) → Outcome A → List ℕ
 answerOf values (refused number offset) = number ∷ offset ∷ 0 ∷ 0 ∷ 0 ∷ []
@@ -15,7 +14,3 @@ readAnswer o = answerOf (λ v. v .badges ∷ v .ticks ∷ v .contacts ∷ []) o
 
 abbrev pub writtenAnswer : Outcome ℕ → List ℕ
 writtenAnswer o = answerOf (λ count. 0 ∷ 0 ∷ count ∷ []) o
-
--- the thresholds that an exported call is handed over as three numbers
-abbrev pub leastOf : ℕ → ℕ → ℕ → Thresholds
-leastOf ticks order members = record { ticks = ticks; order = order; members = members }

@@ -13,7 +13,7 @@ use Rattle.sets.specs.Tables.{tabulate, piecewise}
 use Rattle.sets.proofs.Sets.{sub-refl}
 use Rattle.sets.proofs.Size.{none-of-size, size-le, size-without}
 use Rattle.sets.proofs.Tables.{tabulate-is}
-use Rattle.sets.proofs.Walks.{smallest-unseen, rest-is, none-unseen, unseen-less, fill-start, fill-next, fill-end}
+use Rattle.sets.proofs.Walks.{smallest-unseen, rest-is, unseen-less, fill-start, fill-next, fill-end}
 use Rattle.cores.specs.Rows.{graph, keptRows}
 use Rattle.cores.proofs.KeptRows.{kept-emptied, kept-none}
 use Rattle.cores.proofs.peeling.keep.Statement.{statement}
