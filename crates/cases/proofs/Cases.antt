@@ -118,6 +118,8 @@ example-holds =
     then refl
     then refl
     then refl
+    then refl
+    then refl
     then all-best refl refl refl
     then only-plan 4 (0 ∷ 1 ∷ 3 ∷ []) refl (all-best refl refl refl) refl
     then none

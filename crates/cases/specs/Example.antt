@@ -2,7 +2,7 @@
 use mathlib.Core.List.{List, [], _∷_, _++_}
 use Prim.Native.Nat.{ℕ}
 use Rattle.records.specs.Outcomes.{success}
-use Rattle.spans.specs.Thresholds.{plain}
+use Rattle.spans.specs.Thresholds.{leastOf, plain}
 use Rattle.promises.specs.D1.{badges}
 use Rattle.cases.specs.RecordBytes.{BH, CT, ED, RH, GR, PH, PT}
 use Rattle.cases.specs.Rows.{Row, read, tidy, core-numbers, report, plan, plan-ends, listing, length-of}
@@ -32,6 +32,9 @@ example =
     ∷ tidy exampleLog (sevens 20) (sevens 34) (success 34) exampleWords exampleTidy
     ∷ core-numbers 5 4 exampleWords 0 1 (sevens 5) (success 5) (2 ∷ 2 ∷ 2 ∷ 0 ∷ 0 ∷ [])
     ∷ report 5 4 exampleWords plain (sevens 49) (success 49) (RH 5 4 ++ GR 2 0 1 (badges (0 ∷ 1 ∷ 2 ∷ [])) ++ GR 1 0 2 (badges (0 ∷ 1 ∷ 2 ∷ [])) ++ GR 1 1 3 (badges (3 ∷ 4 ∷ [])) ++ ED 3)
+    -- with a least length of three ticks, and with a least order of 2
+    ∷ report 5 4 exampleWords (leastOf 3 1 2) (sevens 36) (success 36) (RH 5 4 ++ GR 1 0 2 (badges (0 ∷ 1 ∷ 2 ∷ [])) ++ GR 1 1 3 (badges (3 ∷ 4 ∷ [])) ++ ED 2)
+    ∷ report 5 4 exampleWords (leastOf 1 2 2) (sevens 23) (success 23) (RH 5 4 ++ GR 2 0 1 (badges (0 ∷ 1 ∷ 2 ∷ [])) ++ ED 1)
     ∷ listing exampleLog "badges 5 ticks 4 groups 3\norder 2 ticks 0 to 1 badges 0 1 2\norder 1 ticks 0 to 2 badges 0 1 2\norder 1 ticks 1 to 3 badges 3 4\n"
     -- badge 1 in three parts: one plan has the greatest sum, 4
     ∷ plan-ends 5 4 exampleWords (badges (1 ∷ [])) 3 4 ((0 ∷ 1 ∷ 3 ∷ []) ∷ [])

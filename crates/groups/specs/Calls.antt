@@ -34,7 +34,7 @@ coreNumbersOf n T ws first last buffer = deliver (andThen (checkOf n T ws) (λ x
 unfoldable pub reportJudged : ℕ → ℕ → List ℕ → Thresholds → Outcome (List ℕ)
 reportJudged n T ws least = refuseIf (isnt (inRange least)) 17 0 (success (reportBytes n T (kept least (groupsOf n T ws))))
 
--- report. "Calls on words: 10, 8, 11 first, then .. report" 17, "9."
+-- report. "Calls on words: 10, 8, 11 first, then .. report 9", and 17 before it.
 unfoldable pub reportOf : ℕ → ℕ → List ℕ → Thresholds → List ℕ → Delivered
 reportOf n T ws least buffer = deliver (andThen (checkOf n T ws) (λ x. reportJudged n T ws least)) buffer
 

@@ -32,8 +32,8 @@ use sets::BadgeSet;
 use sets::widen;
 use spans::Thresholds;
 
-// Appends a group's record if it has members, its order is above the next, else the span that is one tick longer at its end has a core of the
-// same order, and it meets the thresholds.
+// Appends a group's record if it has members, its order is above the next and it meets the thresholds. Where the order is not above the next, the
+// span that is one tick longer at its end has a core of the same order.
 fn append_group(buffer: &mut [u8], count: usize, group: Shown, next: u8, least: Thresholds) -> usize
     requires { ⌜ (4 + 13 * count + 13 ≤ length (now buffer)) × (group .first ≤ group .last) ⌝ }
     ensures { λ r. ⌜ AppendsCores (ascii "GR") 4 (kept least (keepIf (ltb 0 (members (group .members)) and ltb next (group .order)) (coreOf group ∷ []))) count r (now (buffer .entry)) (now (buffer .exit)) ⌝ }

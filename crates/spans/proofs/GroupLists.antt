@@ -2,6 +2,7 @@
 use mathlib.Core.Path.{_≡_, refl, ap}
 use mathlib.Core.Bool.{Bool, true, false}
 use mathlib.Core.List.{List, List·Memᴰ·head, List·Memᴰ·eq-of-singleton}
+use mathlib.Core.Logic.{_↔_}
 use Prim.Native.Nat.{ℕ, suc, _≤_, _<_, suc-le-suc}
 use native.Mathlib.Omega.{arith}
 use lib.Dec.{leb}
@@ -166,3 +167,12 @@ kept-plain {n} {T} {ws} lent = kept-all plain (groupsOf n T ws) (λ c i.
     let s = of-groups n T ws c i in
     let p = group-parts n T ws _ _ _ (s .group) in
     meets-in plain c (omega (arith, s .rising)) (p .0) (omega (arith, p .0, order-many (shown-order lent plain s))))
+
+-- So with 1, 1 and 2 the statement is demand 3's own: a record is there exactly when its order and span are unsurpassed.
+pub plain-exactly : {n T : ℕ} {ws : List ℕ} {base : ℕ} {groups : List SpanCore} → GroupStatement n T ws base plain groups
+    → (k first last : ℕ) → 1 ≤ k → first ≤ last → last < T → ((c : SpanCore) × Mem c groups × Has c k first last) ↔ Unsurpassed n T ws base k first last
+plain-exactly s k first last l m w =
+    let e = s .exactly k first last l m w in (
+      λ x. e .0 x .0,
+      λ u. e .1 (u, record { long = omega arith; high = l; many = (u .some .0, u .some .1, omega (arith, order-many (u .some .1))) }),
+    )

@@ -20,7 +20,8 @@ pub record Unsurpassed (n T : ℕ) (ws : List ℕ) (base k first last : ℕ) : T
   pub none : (k′ first′ last′ s : ℕ) → k ≤ k′ → first′ ≤ first → last ≤ last′ → last′ < T → OfOrder n ws base k′ first′ last′ s
       → (k′ ≡ k) × (first′ ≡ first) × (last′ ≡ last)
 
--- what the thresholds ask of an order and a span: it is long enough, the order is high enough, and some set of this order has members enough
+-- what the thresholds ask of an order and a span: the span is long enough, the order is high enough, and some set of this order on it has members
+-- enough
 pub record LargeEnough (n : ℕ) (ws : List ℕ) (base : ℕ) (least : Thresholds) (k first last : ℕ) : Type 0 where
   pub long : least .ticks ≤ spanTicks first last
   pub high : least .order ≤ k
