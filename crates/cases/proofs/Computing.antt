@@ -24,7 +24,8 @@ use Rattle.cuts.specs.Sums.{firstGreatest, sumWith, bestSum, endAfter, endsFrom
 use Rattle.spans.specs.Spans.{isSpan, throughout, spanNeighbours}
 use Rattle.spans.specs.SpanCores.{coreOn, hasCore}
 use Rattle.spans.specs.Reports.{asLarge, same, isMaximal, isGroup, groupsOn, groupsFrom, groupsOf}
-use Rattle.spans.specs.Thresholds.{inRange, areEnough, meets, kept}
+use Rattle.thresholds.specs.Ranges.{inRange, areEnough}
+use Rattle.spans.specs.KeptGroups.{meets, kept}
 use Rattle.spans.specs.Plans.{scoreOn, membersOn, partOn, partsFrom, isQuery, isParts}
 use Rattle.spans.specs.Encoding.{encodeCore, encodeCores, reportBytes, planBytes}
 use Rattle.groups.specs.Calls.{coreNumberBytes, spanJudged, coreNumbersOf, reportJudged, reportOf, planJudged, planOf}

@@ -2,7 +2,7 @@
 use mathlib.Core.List.{List, [], _∷_, _++_}
 use Prim.Native.Nat.{ℕ}
 use Rattle.records.specs.Outcomes.{success}
-use Rattle.spans.specs.Thresholds.{leastOf, plain}
+use Rattle.thresholds.specs.Ranges.{leastOf, plain}
 use Rattle.promises.specs.D1.{badges}
 use Rattle.cases.specs.RecordBytes.{BH, CT, ED, RH, GR, PH, PT}
 use Rattle.cases.specs.Rows.{Row, read, tidy, core-numbers, report, plan, plan-ends, listing, length-of}

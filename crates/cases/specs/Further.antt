@@ -3,7 +3,7 @@ use mathlib.Core.List.{List, [], _∷_, _++_}
 use Prim.Native.Nat.{ℕ}
 use Rattle.records.specs.Outcomes.{refused, success}
 use Rattle.sets.specs.Ascii.{ascii}
-use Rattle.spans.specs.Thresholds.{plain}
+use Rattle.thresholds.specs.Ranges.{plain}
 use Rattle.promises.specs.D1.{badges, d1Words}
 use Rattle.cases.specs.RecordBytes.{BH, CT, ED, RH, GR}
 use Rattle.cases.specs.Rows.{Row, read, tidy, write, core-numbers, report, plan, listing}

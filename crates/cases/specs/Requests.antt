@@ -2,7 +2,7 @@
 use mathlib.Core.List.{List, [], _∷_, _++_}
 use Prim.Native.Nat.{ℕ}
 use Rattle.records.specs.Outcomes.{refused, success}
-use Rattle.spans.specs.Thresholds.{leastOf}
+use Rattle.thresholds.specs.Ranges.{leastOf}
 use Rattle.promises.specs.D1.{badges, d1Words}
 use Rattle.cases.specs.RecordBytes.{ED, RH, GR}
 use Rattle.cases.specs.Rows.{Row, report, length-of}

@@ -10,7 +10,7 @@ use Rattle.records.specs.Verdicts.{Values}
 use Rattle.days.specs.Calls.{readOf}
 use Rattle.log.specs.Calls.{tidyOf, writeOf}
 use Rattle.cuts.specs.Cuttings.{total, IsBest}
-use Rattle.spans.specs.declared.thresholds.Thresholds.{Thresholds}
+use Rattle.thresholds.specs.declared.Thresholds.{Thresholds}
 use Rattle.spans.specs.Plans.{scoreOn}
 use Rattle.groups.specs.Calls.{coreNumbersOf, reportOf, Planned}
 use Rattle.sets.specs.Ascii.{ascii}

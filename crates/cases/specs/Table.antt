@@ -5,7 +5,7 @@ use Prim.Native.Nat.{ℕ}
 use lib.ListN.{replicate}
 use Rattle.records.specs.Outcomes.{Outcome, refused, success}
 use Rattle.records.specs.Verdicts.{Values}
-use Rattle.spans.specs.Thresholds.{plain}
+use Rattle.thresholds.specs.Ranges.{plain}
 use Rattle.promises.specs.D1.{badges, d1Words}
 use Rattle.cases.specs.RecordBytes.{BH, CT, ED, RH, GR, PH, PT}
 use Rattle.cases.specs.Rows.{Row, read, tidy, write, core-numbers, report, plan, plan-ends, length-of}

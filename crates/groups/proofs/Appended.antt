@@ -13,9 +13,9 @@ use Rattle.sets.specs.Tables.{concatBelow, keepIf}
 use Rattle.sets.proofs.Concat.{concat-nil, keep-nil, keep-all, keep-le, concat-from}
 use Rattle.log.specs.Buffers.{place}
 use Rattle.log.proofs.Delivering.{length-place, take-place}
-use Rattle.spans.specs.declared.thresholds.Thresholds.{Thresholds}
+use Rattle.thresholds.specs.declared.Thresholds.{Thresholds}
 use Rattle.spans.specs.SpanCores.{SpanCore}
-use Rattle.spans.specs.Thresholds.{kept}
+use Rattle.spans.specs.KeptGroups.{kept}
 use Rattle.spans.specs.Encoding.{encodeCore, encodeCores}
 use Rattle.spans.proofs.Encoding.{encode-core-length, encode-cores-append}
 use Rattle.spans.proofs.KeptRecords.{kept-le, kept-append}

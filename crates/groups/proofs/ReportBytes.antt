@@ -14,9 +14,9 @@ use Rattle.records.proofs.WithinLimits.{limits-of}
 use Rattle.days.specs.Days.{LentDay}
 use Rattle.log.specs.Buffers.{place}
 use Rattle.log.proofs.Delivering.{take-place}
-use Rattle.spans.specs.declared.thresholds.Thresholds.{Thresholds}
+use Rattle.thresholds.specs.declared.Thresholds.{Thresholds}
 use Rattle.spans.specs.Reports.{groupsFrom, groupsOf}
-use Rattle.spans.specs.Thresholds.{kept}
+use Rattle.spans.specs.KeptGroups.{kept}
 use Rattle.spans.specs.Encoding.{maxGroups, maxReportBytes, encodeCores, reportBytes}
 use Rattle.spans.proofs.KeptRecords.{kept-le}
 use Rattle.spans.proofs.MostGroups.{groups-before}

@@ -23,11 +23,12 @@ use Rattle.log.specs.Buffers.{Delivered, deliver}
 use Rattle.log.proofs.Delivering.{deliver-refused, deliver-passed, deliver-short, deliver-fits}
 use Rattle.cores.specs.Cores.{core}
 use Rattle.cores.proofs.Cores.{core-sub}
-use Rattle.spans.specs.declared.thresholds.Thresholds.{Thresholds}
+use Rattle.thresholds.specs.declared.Thresholds.{Thresholds}
 use Rattle.spans.specs.Spans.{spanNeighbours}
 use Rattle.spans.specs.SpanCores.{SpanCore, coreOn}
 use Rattle.spans.specs.Reports.{groupsOf}
-use Rattle.spans.specs.Thresholds.{plain, inRange, kept}
+use Rattle.thresholds.specs.Ranges.{plain, inRange}
+use Rattle.spans.specs.KeptGroups.{kept}
 use Rattle.spans.specs.Encoding.{reportBytes, reportRecords}
 use Rattle.spans.specs.GroupStatement.{GroupStatement}
 use Rattle.spans.proofs.Decoding.{report-said}

@@ -8,10 +8,10 @@ use Rattle.sets.specs.Bools.{_and_}
 use Rattle.sets.specs.Members.{members}
 use Rattle.sets.specs.Tables.{concatBelow, keepIf}
 use Rattle.records.specs.Limits.{maxTicks}
-use Rattle.spans.specs.declared.thresholds.Thresholds.{Thresholds}
+use Rattle.thresholds.specs.declared.Thresholds.{Thresholds}
 use Rattle.spans.specs.SpanCores.{SpanCore}
 use Rattle.spans.specs.Reports.{groupsOf}
-use Rattle.spans.specs.Thresholds.{kept}
+use Rattle.spans.specs.KeptGroups.{kept}
 use Rattle.groups.specs.declared.encoding.Shown.{Shown}
 use Rattle.spans.specs.Encoding.{maxGroups, encodeCores, reportBytes}
 

@@ -10,10 +10,11 @@ use Rattle.days.specs.Calls.{checkOf}
 use Rattle.log.specs.Buffers.{Delivered, deliver}
 use Rattle.cores.specs.Orders.{coreNumber}
 use Rattle.cuts.specs.Cuttings.{IsBest}
-use Rattle.spans.specs.declared.thresholds.Thresholds.{Thresholds}
+use Rattle.thresholds.specs.declared.Thresholds.{Thresholds}
 use Rattle.spans.specs.Spans.{isSpan, spanNeighbours}
 use Rattle.spans.specs.Reports.{groupsOf}
-use Rattle.spans.specs.Thresholds.{inRange, kept}
+use Rattle.thresholds.specs.Ranges.{inRange}
+use Rattle.spans.specs.KeptGroups.{kept}
 use Rattle.spans.specs.Plans.{scoreOn, partsFrom, isQuery, isParts}
 use Rattle.spans.specs.Encoding.{reportBytes, planBytes}
 

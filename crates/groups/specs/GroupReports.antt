@@ -8,9 +8,9 @@ use Rattle.sets.specs.Sets.{full}
 use Rattle.records.specs.Outcomes.{Outcome, refused, success}
 use Rattle.days.specs.Days.{LentDay}
 use Rattle.log.specs.Buffers.{Delivered}
-use Rattle.spans.specs.declared.thresholds.Thresholds.{Thresholds}
+use Rattle.thresholds.specs.declared.Thresholds.{Thresholds}
 use Rattle.spans.specs.SpanCores.{SpanCore}
-use Rattle.spans.specs.Thresholds.{inRange}
+use Rattle.thresholds.specs.Ranges.{inRange}
 use Rattle.spans.specs.Encoding.{reportBytes, reportRecords}
 use Rattle.spans.specs.GroupStatement.{GroupStatement, ReportAsked}
 

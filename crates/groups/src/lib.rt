@@ -18,4 +18,4 @@ pub use numbers::core_numbers;
 pub use planning::plan;
 pub use refusal::Refusal;
 pub use reporting::report;
-pub use spans::Thresholds;
+pub use thresholds::Thresholds;

@@ -10,7 +10,7 @@ ghost use Rattle.sets.specs.Members.{members};
 ghost use Rattle.sets.specs.Tables.{keepIf};
 ghost use Rattle.days.specs.Days.{LentDay};
 ghost use Rattle.log.specs.Buffers.{deliver};
-ghost use Rattle.spans.specs.Thresholds.{kept};
+ghost use Rattle.spans.specs.KeptGroups.{kept};
 ghost use Rattle.spans.specs.Encoding.{maxReportBytes};
 ghost use Rattle.groups.specs.Refusals.{writtenOutcome};
 ghost use Rattle.groups.specs.Appending.{coreOf, AppendsCores, lineList, LineRoom, EncodesReport};
@@ -30,7 +30,7 @@ use log::put;
 use log::put_record;
 use sets::BadgeSet;
 use sets::widen;
-use spans::Thresholds;
+use thresholds::Thresholds;
 
 // Appends a group's record if it has members, its order is above the next and it meets the thresholds. Where the order is not above the next, the
 // span that is one tick longer at its end has a core of the same order.

@@ -20,10 +20,11 @@ use Rattle.records.proofs.Outcomes.{refused-success, success-same}
 use Rattle.days.specs.Days.{LentDay}
 use Rattle.log.specs.Buffers.{Delivered, deliver}
 use Rattle.log.proofs.Delivering.{deliver-fits}
-use Rattle.spans.specs.declared.thresholds.Thresholds.{Thresholds}
+use Rattle.thresholds.specs.declared.Thresholds.{Thresholds}
 use Rattle.spans.specs.SpanCores.{SpanCore, Mem}
 use Rattle.spans.specs.Reports.{groupsOf}
-use Rattle.spans.specs.Thresholds.{plain, kept}
+use Rattle.thresholds.specs.Ranges.{plain}
+use Rattle.spans.specs.KeptGroups.{kept}
 use Rattle.spans.specs.Encoding.{encodeCores, reportBytes, decodeCores, recordsAfter}
 use Rattle.spans.specs.GroupStatement.{Has, GroupStatement, ReportAsked}
 use Rattle.spans.proofs.Decoding.{last-four}

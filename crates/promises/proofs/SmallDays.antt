@@ -21,7 +21,8 @@ use Rattle.spans.specs.Spans.{isSpan, throughout, spanNeighbours}
 use Rattle.spans.specs.Contacts.{fellows}
 use Rattle.spans.specs.SpanCores.{SpanCore, coreOn, hasCore}
 use Rattle.spans.specs.Reports.{asLarge, same, isMaximal, isGroup, groupsOn, groupsFrom, groupsOf}
-use Rattle.spans.specs.Thresholds.{plain, inRange, areEnough, meets, kept}
+use Rattle.thresholds.specs.Ranges.{plain, inRange, areEnough}
+use Rattle.spans.specs.KeptGroups.{meets, kept}
 use Rattle.spans.specs.GroupStatement.{ReportAsked}
 use Rattle.spans.specs.Plans.{scoreOn, partOn, partsFrom}
 use Rattle.spans.specs.PlanStatement.{sumOfOrders}

@@ -9,11 +9,12 @@ use Rattle.sets.specs.Sets.{full}
 use Rattle.sets.specs.Tables.{concatBelow, keepIf}
 use Rattle.sets.proofs.Bools.{clash, same-test}
 use Rattle.log.specs.Buffers.{Delivered}
-use Rattle.spans.specs.declared.thresholds.Thresholds.{Thresholds}
+use Rattle.thresholds.specs.declared.Thresholds.{Thresholds}
 use Rattle.spans.specs.Spans.{isSpan}
 use Rattle.spans.specs.SpanCores.{SpanCore, Mem, coreOn, hasCore}
 use Rattle.spans.specs.Reports.{asLarge, same, groupsOf}
-use Rattle.spans.specs.Thresholds.{leastOf, inRange, meets, kept}
+use Rattle.thresholds.specs.Ranges.{leastOf, inRange}
+use Rattle.spans.specs.KeptGroups.{meets, kept}
 use Rattle.spans.specs.GroupStatement.{GroupStatement}
 use Rattle.spans.proofs.KeptRecords.{in-kept, of-kept}
 use Rattle.spans.proofs.GroupLists.{groups-stated}

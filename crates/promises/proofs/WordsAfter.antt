@@ -21,11 +21,12 @@ use Rattle.cores.proofs.Cores.{core-same}
 use Rattle.cores.proofs.Orders.{score-same}
 use Rattle.cuts.specs.Cuttings.{Cutting, IsBest, total}
 use Rattle.cuts.proofs.Cuttings.{Cuts, one, more, cuts-fit, to-cuts, total-same}
-use Rattle.spans.specs.declared.thresholds.Thresholds.{Thresholds}
+use Rattle.thresholds.specs.declared.Thresholds.{Thresholds}
 use Rattle.spans.specs.Spans.{isSpan}
 use Rattle.spans.specs.SpanCores.{SpanCore, coreOn, hasCore}
 use Rattle.spans.specs.Reports.{asLarge, same, isMaximal, isGroup, groupsOn, groupsFrom, groupsOf}
-use Rattle.spans.specs.Thresholds.{inRange, kept}
+use Rattle.thresholds.specs.Ranges.{inRange}
+use Rattle.spans.specs.KeptGroups.{kept}
 use Rattle.spans.specs.Plans.{scoreOn, membersOn, partOn, partsFrom}
 use Rattle.spans.specs.Encoding.{reportBytes, planBytes}
 use Rattle.spans.proofs.SpanRows.{SameDay, fewer-head}

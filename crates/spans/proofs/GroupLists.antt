@@ -20,8 +20,9 @@ use Rattle.spans.specs.Spans.{SpanOfDay}
 use Rattle.spans.specs.Contacts.{OfOrder}
 use Rattle.spans.specs.SpanCores.{SpanCore, Mem, coreOn, hasCore}
 use Rattle.spans.specs.Reports.{isMaximal, isGroup, groupsOn, groupsFrom, groupsOf}
-use Rattle.spans.specs.declared.thresholds.Thresholds.{Thresholds}
-use Rattle.spans.specs.Thresholds.{plain, meets, kept}
+use Rattle.thresholds.specs.declared.Thresholds.{Thresholds}
+use Rattle.thresholds.specs.Ranges.{plain}
+use Rattle.spans.specs.KeptGroups.{meets, kept}
 use Rattle.spans.specs.GroupStatement.{Unsurpassed, LargeEnough, Has, GroupStatement}
 use Rattle.spans.proofs.OrderSets.{order-cohesive, cohesive-order, order-many}
 use Rattle.spans.proofs.KeptRecords.{meets-in, meets-of, in-kept, of-kept, kept-pairwise, kept-all}

@@ -7,11 +7,11 @@ use mathlib.Core.Path.{_≡_}
 use Prim.Native.Nat.{ℕ, _≤_, _<_}
 use Rattle.sets.specs.Sets.{Sub, size}
 use Rattle.days.specs.Days.{LentDay}
-use Rattle.spans.specs.declared.thresholds.Thresholds.{Thresholds}
+use Rattle.thresholds.specs.declared.Thresholds.{Thresholds}
 use Rattle.spans.specs.Spans.{spanTicks}
 use Rattle.spans.specs.Contacts.{OfOrder}
 use Rattle.spans.specs.SpanCores.{SpanCore, Mem}
-use Rattle.spans.specs.Thresholds.{inRange}
+use Rattle.thresholds.specs.Ranges.{inRange}
 
 -- "some non-empty badge set gives each member at least k fellow members in contact with it in every tick of the span, and no non-empty set
 -- does so for an order at least k and a span including this one, order or span being larger"

@@ -5,7 +5,7 @@ pub mod Contacts
 pub mod SpanCores
 pub mod LongerSpans
 pub mod Reports
-pub mod Thresholds
+pub mod KeptGroups
 pub mod Plans
 pub mod Encoding
 pub mod GroupStatement

@@ -5,7 +5,7 @@ use Prim.Native.Nat.{ℕ}
 use Rattle.records.specs.Outcomes.{refused, success}
 use Rattle.records.specs.Verdicts.{Values}
 use Rattle.days.specs.Calls.{readOf}
-use Rattle.spans.specs.Thresholds.{plain}
+use Rattle.thresholds.specs.Ranges.{plain}
 use Rattle.groups.specs.Calls.{reportOf}
 use Rattle.text.specs.Calls.{reported, prepareOf}
 

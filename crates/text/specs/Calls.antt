@@ -6,7 +6,7 @@ use Rattle.records.specs.Outcomes.{Outcome, refused, success}
 use Rattle.records.specs.Verdicts.{Values}
 use Rattle.days.specs.Calls.{readOf}
 use Rattle.log.specs.Buffers.{Delivered}
-use Rattle.spans.specs.Thresholds.{plain}
+use Rattle.thresholds.specs.Ranges.{plain}
 use Rattle.spans.specs.Encoding.{decodeCores}
 use Rattle.groups.specs.Calls.{reportOf}
 use Rattle.text.specs.Listing.{refusalLine, reportLines}

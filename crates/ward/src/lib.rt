@@ -5,7 +5,7 @@ mod answers;
 ghost use mathlib.Core.Path.{_≡_};
 ghost use Rattle.days.specs.Calls.{readOf};
 ghost use Rattle.log.specs.Calls.{tidyOf, writeOf};
-ghost use Rattle.spans.specs.Thresholds.{leastOf};
+ghost use Rattle.thresholds.specs.Ranges.{leastOf};
 ghost use Rattle.groups.specs.Calls.{coreNumbersOf, reportOf};
 ghost use Rattle.groups.specs.GroupReports.{Reported};
 ghost use Rattle.ward.specs.Answers.{readAnswer, writtenAnswer};

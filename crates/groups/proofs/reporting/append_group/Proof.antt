@@ -15,10 +15,11 @@ use Rattle.sets.specs.Members.{members}
 use Rattle.sets.specs.Tables.{keepIf}
 use Rattle.sets.proofs.Bools.{clash, and-in, and-left, and-right}
 use Rattle.sets.proofs.Concat.{keep-nil, keep-all}
-use Rattle.spans.specs.declared.thresholds.Thresholds.{Thresholds}
+use Rattle.thresholds.specs.declared.Thresholds.{Thresholds}
 use Rattle.spans.specs.Spans.{spanTicks}
 use Rattle.spans.specs.SpanCores.{SpanCore}
-use Rattle.spans.specs.Thresholds.{areEnough, meets, kept}
+use Rattle.thresholds.specs.Ranges.{areEnough}
+use Rattle.spans.specs.KeptGroups.{meets, kept}
 use Rattle.spans.proofs.KeptRecords.{kept-one}
 use Rattle.groups.specs.Appending.{coreOf, AppendsCores}
 use Rattle.groups.proofs.Appended.{appends-none}

@@ -6,7 +6,7 @@ use native.Mathlib.Omega.{arith}
 use borrow.Author.Needs.{needs}
 use Rattle.sets.specs.Ascii.{ascii}
 use Rattle.sets.specs.Tables.{concatBelow}
-use Rattle.spans.specs.Thresholds.{kept}
+use Rattle.spans.specs.KeptGroups.{kept}
 use Rattle.groups.specs.Appending.{AppendsCores, lineList}
 use Rattle.groups.proofs.Appended.{appends-none, lineCell, line-none, line-more, cells-le}
 use Rattle.groups.proofs.reporting.append_line.Statement.{statement}

@@ -4,9 +4,9 @@ use native.Mathlib.Omega.{arith}
 use borrow.Author.Needs.{needs}
 use borrow.Author.Tests.{leb-true, le-leb}
 use Rattle.sets.proofs.Bools.{to-false, same-test}
-use Rattle.spans.proofs.KeptRecords.{enough-in, enough-of}
-use Rattle.spans.proofs.thresholds.Thresholds.met_by.Statement.{statement}
-use Rattle.spans.proofs.thresholds.Thresholds.met_by.Tie as tie
+use Rattle.thresholds.proofs.Enough.{enough-in, enough-of}
+use Rattle.thresholds.proofs.Thresholds.met_by.Statement.{statement}
+use Rattle.thresholds.proofs.Thresholds.met_by.Tie as tie
 
 returns : tie.Need-returns
 returns c = sym (to-false _ (λ e. omega (arith, c .if1 .taken, enough-of _ e .0)))

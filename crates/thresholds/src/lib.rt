@@ -1,8 +1,8 @@
-// What the groups that a report keeps have at least.
+// What a report may ask of its groups at least. No function has a precondition: the ranges are tested where a call judges.
 ghost use mathlib.Core.Path.{_≡_};
 ghost use Rattle.sets.specs.Sets.{size};
 ghost use Rattle.sets.specs.Members.{members};
-ghost use Rattle.spans.specs.Thresholds.{inRange, areEnough};
+ghost use Rattle.thresholds.specs.Ranges.{inRange, areEnough};
 use records::MAX_BADGES;
 use records::MAX_TICKS;
 use sets::BadgeSet;

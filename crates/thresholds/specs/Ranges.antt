@@ -1,16 +1,10 @@
--- "A report may now be given least length in ticks (1 to 96), least order (1 to 63) and least members (2 to 64). It keeps the records of the full
--- report that meet all three, in their order."
+-- "A report may now be given least length in ticks (1 to 96), least order (1 to 63) and least members (2 to 64)."
 use mathlib.Core.Bool.{Bool}
-use mathlib.Core.List.{List, [], _∷_, _++_}
 use Prim.Native.Nat.{ℕ, _-_}
 use lib.Dec.{leb}
 use Rattle.sets.specs.Bools.{_and_}
-use Rattle.sets.specs.Sets.{size}
-use Rattle.sets.specs.Tables.{keepIf}
 use Rattle.records.specs.Limits.{maxBadges, maxTicks}
-use Rattle.spans.specs.declared.thresholds.Thresholds.{Thresholds}
-use Rattle.spans.specs.Spans.{spanTicks}
-use Rattle.spans.specs.SpanCores.{SpanCore}
+use Rattle.thresholds.specs.declared.Thresholds.{Thresholds}
 
 -- the least length in ticks, order and number of members
 abbrev pub leastOf : ℕ → ℕ → ℕ → Thresholds
@@ -27,14 +21,6 @@ inRange least =
     and (leb 1 (least .order) and leb (least .order) (maxBadges - 1))
     and (leb 2 (least .members) and leb (least .members) maxBadges)
 
--- so many ticks, an order and so many members are enough, and so are those of a record
+-- so many ticks, an order and so many members are enough
 unfoldable pub areEnough : Thresholds → ℕ → ℕ → ℕ → Bool
 areEnough least ticks order members = leb (least .ticks) ticks and leb (least .order) order and leb (least .members) members
-
-unfoldable pub meets : Thresholds → SpanCore → Bool
-meets least c = areEnough least (spanTicks (c .first) (c .last)) (c .order) (size (c .members))
-
--- the records of a list that do, in their order
-unfoldable pub kept : Thresholds → List SpanCore → List SpanCore
-kept least [] = []
-kept least (c ∷ cs) = keepIf (meets least c) (c ∷ []) ++ kept least cs

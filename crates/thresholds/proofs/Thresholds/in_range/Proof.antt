@@ -3,9 +3,9 @@ use mathlib.Core.Path.{sym}
 use native.Mathlib.Omega.{arith}
 use borrow.Author.Needs.{needs}
 use Rattle.sets.proofs.Bools.{to-false}
-use Rattle.spans.proofs.KeptRecords.{ranges-of, ranges-in}
-use Rattle.spans.proofs.thresholds.Thresholds.in_range.Statement.{statement}
-use Rattle.spans.proofs.thresholds.Thresholds.in_range.Tie as tie
+use Rattle.thresholds.proofs.Enough.{ranges-of, ranges-in}
+use Rattle.thresholds.proofs.Thresholds.in_range.Statement.{statement}
+use Rattle.thresholds.proofs.Thresholds.in_range.Tie as tie
 
 returns : tie.Need-returns
 returns c = sym (to-false _ (λ e. omega (arith, ranges-of _ e, c .if1 .taken)))

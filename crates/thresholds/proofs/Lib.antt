@@ -1,0 +1,2 @@
+-- Laws of the definitions in specs/, for the proofs of this crate and of those that depend on it.
+pub mod Enough

@@ -1,0 +1,2 @@
+-- Thresholds: what a reader has to believe. Laws are in proofs/.
+pub mod Ranges
