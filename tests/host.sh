@@ -1,5 +1,5 @@
 #!/usr/bin/env bash
-# The checks from the other side of the C interface. Builds the two static libraries, of the calls for C and of the probes, one after the other: each build
+# The checks from the other side of the C interface. Builds the two static libraries side by side, of the calls for C and, in a copy, of the probes: each build
 # writes anew what the other would read. Then runs the tests in Rust, every call against a second implementation, with the examples in its
 # documentation; then the example in C, a million random calls between guard pages, the measurement of the stack, and, where the listing program is
 # built, its runs from a pipe.
@@ -7,8 +7,15 @@
 # proved again, but for ward and probes themselves. Its status is 0 where all of them pass; the first that fails ends it.
 set -euo pipefail
 cd "$(dirname "${BASH_SOURCE[0]}")/.."
+rt check ward probes
+copy=$(mktemp -d)
+trap 'rm -rf "$copy"' EXIT
+cp -r crates crates.txt target "$copy"
+(cd "$copy" && rt staticlib probes) &
+probes=$!
 rt staticlib ward
-rt staticlib probes
+wait "$probes"
+cp "$copy/target/staticlib/libprobes.a" target/staticlib/
 (cd rust/ward && cargo test --offline --release)
 bash tests/c-example.sh
 bash tests/guard-pages.sh
