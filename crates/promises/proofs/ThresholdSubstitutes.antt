@@ -23,10 +23,12 @@ use Rattle.promises.specs.D1.{d1Words}
 use Rattle.promises.proofs.SmallDays.{computing, d1-lent, triple, couple, d1-groups, allFour}
 use Rattle.promises.proofs.ReportSubstitutes.{stated-same, empty}
 
--- A report that judges by other thresholds than those that it is given. Refuted by any thresholds and any group of D1 for which that makes a
--- difference.
-pub judged-by-others : (other : Thresholds → Thresholds) (given : Thresholds) (c : SpanCore) → inRange given ≡ true → Mem c (groupsOf 4 3 d1Words) → (meets (other given) c ≡ meets given c → ⊥)
-    → (call : ℕ → ℕ → List ℕ → Thresholds → List ℕ → Delivered) → ReportsGroups call (λ n T ws l. kept (other l) (groupsOf n T ws)) → ⊥
+-- no call that judges by other thresholds than it is given keeps the promise
+abbrev Refuted : (Thresholds → Thresholds) → Type 0
+Refuted other = (call : ℕ → ℕ → List ℕ → Thresholds → List ℕ → Delivered) → ReportsGroups call (λ n T ws l. kept (other l) (groupsOf n T ws)) → ⊥
+
+-- So it is wherever that makes a difference to a group of D1, under any thresholds.
+pub judged-by-others : (other : Thresholds → Thresholds) (given : Thresholds) (c : SpanCore) → inRange given ≡ true → Mem c (groupsOf 4 3 d1Words) → (meets (other given) c ≡ meets given c → ⊥) → Refuted other
 judged-by-others other given c r i h call p =
     let groups = groupsOf 4 3 d1Words in
     let x = p .stated 4 3 d1Words given (record { lent = d1-lent; range = r }) in
@@ -41,11 +43,7 @@ triple-there = rw d1-groups (List·Memᴰ·head refl)
 couple-there : Mem couple (groupsOf 4 3 d1Words)
 couple-there = rw d1-groups (List·Memᴰ·tail (List·Memᴰ·head refl))
 
--- what a report by other thresholds comes to
-abbrev Refuted : (Thresholds → Thresholds) → Type 0
-Refuted other = (call : ℕ → ℕ → List ℕ → Thresholds → List ℕ → Delivered) → ReportsGroups call (λ n T ws l. kept (other l) (groupsOf n T ws)) → ⊥
-
--- the least length: ignored, one too many, one too few
+-- the least length: ignored, one too high, one too low
 pub ticks-ignored : Refuted (λ l. leastOf 1 (l .order) (l .members))
 unfolding computing
 ticks-ignored = judged-by-others _ (leastOf 3 1 2) triple refl triple-there (λ e. clash refl e)
@@ -89,8 +87,8 @@ pub four-none : (xs : List SpanCore) → GroupStatement 4 3 d1Words (full 4) (le
 unfolding computing
 four-none xs s = empty xs (λ c i. List·Memᴰ·not-nil (stated-same xs [] s (groups-stated 4 3 d1Words (leastOf 1 1 4) d1-lent) c i))
 
--- Domination judged among the records that pass: of the cores that meet the thresholds, those are kept that no other of these has order and span at
--- least as large as.
+-- Domination judged among the records that pass: of the cores that meet the thresholds, those that no other of these equals or exceeds in both order
+-- and span.
 unfoldable pub coreAt : ℕ → List ℕ → ℕ → ℕ → ℕ → SpanCore
 coreAt n ws k first last = record { order = k; first = first; last = last; members = coreOn n ws k first last }
 

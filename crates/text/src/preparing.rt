@@ -9,7 +9,7 @@ use groups::report;
 use log::Verdict;
 use log::read;
 
-// Reads a log into the words that are lent, and puts the report of its day's groups into the buffer that is lent. Answers the number of the
+// Reads a log into the words that are lent, and puts the plain report of its day's groups into the buffer that is lent. Answers the number of the
 // report's bytes. Refused by what read and report refuse by, and then the buffer is as it was. 6,144 words and 60,538 bytes are enough for
 // every log.
 pub fn prepare(log: &[u8], words: &mut [u64], buffer: &mut [u8]) -> Written
