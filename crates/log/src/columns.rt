@@ -1,7 +1,7 @@
 // The columns of a badge: for each larger one the ticks in which the two meet, as a word.
 ghost use mathlib.Core.Path.{_≡_};
 ghost use Prim.Native.Nat.{_-_, _≤_, _<_, min};
-ghost use lib.ListN.{length};
+ghost use lib.ListN.{length, replicate};
 ghost use Rattle.sets.specs.Members.{wordBits, capacity, members};
 ghost use Rattle.records.specs.Limits.{maxTicks};
 ghost use Rattle.log.specs.TickSets.{united, Columns};
@@ -35,18 +35,23 @@ fn window(from: usize, ticks: usize) -> usize
     ticks - from
 }
 
-// For each badge v larger than u, in which of the 64 ticks from one on u and v meet: bit t is for tick from + t. The set bits of u's
-// words are walked, so a pair costs nothing in a tick in which it does not meet.
-pub(crate) fn columns_of(words: &[u64], n: usize, ticks: usize, u: usize, from: usize) -> [u64; 64]
-    requires { ⌜ Writable n ticks (now words) × (u < n) × (from ≤ maxTicks) ⌝ }
-    ensures { λ r. ⌜ Columns n (now (words .entry)) u from (min wordBits (ticks - from)) r ⌝ }
+// Gathers, into empty columns, for each badge v larger than u in which of the 64 ticks from one on u and v meet: bit t is for tick from + t.
+// The set bits of u's words are walked, so a pair costs nothing in a tick in which it does not meet.
+pub(crate) fn gather_columns(
+    words: &[u64],
+    n: usize,
+    ticks: usize,
+    u: usize,
+    from: usize,
+    columns: &mut [u64; 64],
+)
+    requires { ⌜ Writable n ticks (now words) × (u < n) × (from ≤ maxTicks) × (now columns ≡ replicate capacity 0) ⌝ }
+    ensures { λ _. ⌜ Columns n (now (words .entry)) u from (min wordBits (ticks - from)) (now (columns .exit)) ⌝ }
 {
-    let mut columns = [0u64; 64];
     let smaller = BadgeSet::full(u + 1);
     let m = window(from, ticks);
     for t in 0..m {
         let row = BadgeSet::from_word(words[(from + t) * n + u]);
-        unite(&mut columns, row.difference(smaller), 1 << t);
+        unite(columns, row.difference(smaller), 1 << t);
     }
-    columns
 }

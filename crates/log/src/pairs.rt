@@ -5,7 +5,7 @@ ghost use Rattle.days.specs.Days.{adjacent};
 ghost use Rattle.log.specs.Tidy.{runsOf, rowRuns};
 ghost use Rattle.log.specs.TickSets.{hasTick, TicksBelow};
 ghost use Rattle.log.specs.Writing.{Writable, Roomy, Appends};
-use crate::columns::columns_of;
+use crate::columns::gather_columns;
 use crate::encoding::append_contact;
 use crate::ticks::TickSet;
 
@@ -47,8 +47,10 @@ pub(crate) fn append_row(
     requires { ⌜ Writable n ticks (now words) × Roomy count (now buffer) × (u < n) ⌝ }
     ensures { λ r. ⌜ Appends (rowRuns n ticks (adjacent n (now (words .entry))) u) count r (now (buffer .entry)) (now (buffer .exit)) ⌝ }
 {
-    let lows = columns_of(words, n, ticks, u, 0);
-    let highs = columns_of(words, n, ticks, u, 64);
+    let mut lows = [0u64; 64];
+    gather_columns(words, n, ticks, u, 0, &mut lows);
+    let mut highs = [0u64; 64];
+    gather_columns(words, n, ticks, u, 64, &mut highs);
     let mut so_far = count;
     let larger = u + 1;
     for v in larger..n {

@@ -28,46 +28,46 @@ abbrev μ-loop : tie.MeasureT-loop
 abbrev met : tie.In-loop Inv-loop μ-loop → TickSet
 met c =
     let d = c .before .before in
-    record { low = getD (d .before .columns-of .result) (c .before .loop .v) 0; high = getD (d .columns-of2 .result) (c .before .loop .v) 0 }
+    record { low = getD (d .before .before .gather-columns .last .1 .1 .1 .1 .1 .0) (c .before .loop .v) 0; high = getD (d .gather-columns2 .last .1 .1 .1 .1 .1 .0) (c .before .loop .v) 0 }
 
-met-below : (c : tie.In-loop Inv-loop μ-loop) → TicksBelow (c .before .before .before .before .before .before .args .ticks) (met c)
+met-below : (c : tie.In-loop Inv-loop μ-loop) → TicksBelow (c .before .before .before .before .before .before .before .before .args .ticks) (met c)
 met-below c =
     let d = c .before .before in
-    let a = d .before .before .before .before .args in
-    tick-below (a .n) (a .ticks) (a .words .now) (a .u) (c .before .loop .v) (met c) (omega arith) (omega arith) (omega arith) (d .before .columns-of .ensures) (d .columns-of2 .ensures) refl refl
+    let a = d .before .before .before .before .before .before .args in
+    tick-below (a .n) (a .ticks) (a .words .now) (a .u) (c .before .loop .v) (met c) (omega arith) (omega arith) (omega arith) (d .before .before .gather-columns .ensures) (d .gather-columns2 .ensures) refl refl
 
 met-in : (c : tie.In-loop Inv-loop μ-loop) →
-    let a = c .before .before .before .before .before .before .args in (t : ℕ) → t < a .ticks → hasTick (met c) t ≡ adjacent (a .n) (a .words .now) t (a .u) (c .before .loop .v)
+    let a = c .before .before .before .before .before .before .before .before .args in (t : ℕ) → t < a .ticks → hasTick (met c) t ≡ adjacent (a .n) (a .words .now) t (a .u) (c .before .loop .v)
 met-in c =
     let d = c .before .before in
-    let a = d .before .before .before .before .args in
-    tick-in (a .n) (a .ticks) (a .words .now) (a .u) (c .before .loop .v) (met c) (omega arith) (omega arith) (omega arith) (d .before .columns-of .ensures) (d .columns-of2 .ensures) refl refl
+    let a = d .before .before .before .before .before .before .args in
+    tick-in (a .n) (a .ticks) (a .words .now) (a .u) (c .before .loop .v) (met c) (omega arith) (omega arith) (omega arith) (d .before .before .gather-columns .ensures) (d .gather-columns2 .ensures) refl refl
 
-columns-of-requires : tie.Need-columns-of-requires Inv-loop μ-loop
-columns-of-requires c κs = search needs
+gather-columns-requires : tie.Need-gather-columns-requires Inv-loop μ-loop
+gather-columns-requires c κs = search needs
 
-columns-of-requires-2 : tie.Need-columns-of-requires-2 Inv-loop μ-loop
-columns-of-requires-2 c κs = search needs
+gather-columns-requires-2 : tie.Need-gather-columns-requires-2 Inv-loop μ-loop
+gather-columns-requires-2 c κs = search needs
 
 add-larger : tie.Need-add-larger Inv-loop μ-loop
 add-larger c = search needs
 
 loop-holds : tie.Need-loop-holds Inv-loop μ-loop
 loop-holds c =
-    let a = c .before .before .before .before .args in
+    let a = c .before .before .before .before .before .before .args in
     (search needs, search needs, refl, rw (row-none (a .ticks) (adjacent (a .n) (a .words .now)) (a .u)) (appends-none _ _ (omega arith)))
 
-mul-t16 : tie.Need-mul-t16 Inv-loop μ-loop
-mul-t16 c = search needs
+mul-t18 : tie.Need-mul-t18 Inv-loop μ-loop
+mul-t18 c = search needs
 
-array-read-t19 : tie.Need-array-read-t19 Inv-loop μ-loop
-array-read-t19 c = search needs
+array-read-t21 : tie.Need-array-read-t21 Inv-loop μ-loop
+array-read-t21 c = search needs
 
-mul-t20 : tie.Need-mul-t20 Inv-loop μ-loop
-mul-t20 c = search needs
+mul-t22 : tie.Need-mul-t22 Inv-loop μ-loop
+mul-t22 c = search needs
 
-array-read-t23 : tie.Need-array-read-t23 Inv-loop μ-loop
-array-read-t23 c = search needs
+array-read-t25 : tie.Need-array-read-t25 Inv-loop μ-loop
+array-read-t25 c = search needs
 
 append-pair-requires : tie.Need-append-pair-requires Inv-loop μ-loop
 append-pair-requires c κs = (
@@ -88,7 +88,7 @@ loop-again : tie.Need-loop-again Inv-loop μ-loop
 loop-again c =
     let e = c .before .before .before .before in
     let i = e .before .loop in
-    let a = e .before .before .before .before .before .before .args in
+    let a = e .before .before .before .before .before .before .before .before .args in
     let r = adjacent (a .n) (a .words .now) in
     let same = runs-same (a .ticks) (hasTick (met e)) (λ t. r t (a .u) (i .v)) (met-in e) (a .u) (i .v) in
     (search needs, search needs, omega arith, row-more (a .ticks) r (a .u) (i .v) (omega arith) (i .inv .3) (rw same at (c .before .before .append-pair .ensures)))
@@ -99,7 +99,7 @@ same-length c = search needs
 returns : tie.Need-returns Inv-loop μ-loop
 unfolding rowRuns
 returns c =
-    let e : c .before .loop .v ≡ c .before .before .before .before .before .before .args .n = omega (arith, c .loop-test .left) in
+    let e : c .before .loop .v ≡ c .before .before .before .before .before .before .before .before .args .n = omega (arith, c .loop-test .left) in
     rw e at (c .before .loop .inv .3)
 
 pub append-row-spec : {M : Type 1} → statement M
@@ -108,14 +108,14 @@ append-row-spec =
     (tie.spec
     Inv-loop
     μ-loop
-    columns-of-requires
-    columns-of-requires-2
+    gather-columns-requires
+    gather-columns-requires-2
     add-larger
     loop-holds
-    mul-t16
-    array-read-t19
-    mul-t20
-    array-read-t23
+    mul-t18
+    array-read-t21
+    mul-t22
+    array-read-t25
     append-pair-requires
     add-v
     loop-less

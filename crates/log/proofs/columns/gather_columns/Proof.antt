@@ -1,5 +1,5 @@
--- columns_of meets its contract: before tick t of the loop the columns hold the ticks before t.
-use mathlib.Core.Path.{_≡_, sym, ap, ap₂, _∙_}
+-- gather_columns meets its contract: before tick t of the loop the columns hold the ticks before t.
+use mathlib.Core.Path.{_≡_, ap, ap₂, _∙_}
 use Prim.Native.Nat.{_+_, _*_, _-_, _≤_, min}
 use native.Mathlib.Omega.{arith}
 use borrow.Author.Needs.{needs}
@@ -10,8 +10,8 @@ use Rattle.days.specs.Days.{neighbours}
 use Rattle.days.proofs.Days.{tick-fits}
 use Rattle.log.specs.TickSets.{united, Columns}
 use Rattle.log.proofs.Gathering.{columns-none, columns-more}
-use Rattle.log.proofs.columns.columns_of.Statement.{statement}
-use Rattle.log.proofs.columns.columns_of.Tie as tie
+use Rattle.log.proofs.columns.gather_columns.Statement.{statement}
+use Rattle.log.proofs.columns.gather_columns.Tie as tie
 
 abbrev Inv-loop : tie.InvT-loop
 Inv-loop words n ticks u from columns₀ smaller m t₀ columns t = (t ≤ m) × (members smaller ≡ full (u + 1)) × Columns n words u from t columns
@@ -36,7 +36,7 @@ window-requires c κs = search needs
 loop-holds : tie.Need-loop-holds Inv-loop μ-loop
 loop-holds c = let a = c .before .before .before .args in
     let m : min (a .u + 1) capacity ≡ a .u + 1 = omega arith in
-    (search needs, c .before .full .ensures ∙ ap full m, columns-none (a .n) (a .words .now) (a .u) (a .from))
+    (search needs, c .before .full .ensures ∙ ap full m, rw (c .before .before .before .pre .3) (columns-none (a .n) (a .words .now) (a .u) (a .from)))
 
 add-from-word : tie.Need-add-from-word Inv-loop μ-loop
 add-from-word c = omega (arith, here c)
@@ -56,9 +56,6 @@ shared-slice-read-from-word c = omega (arith, here (c .before))
 from-word-requires : tie.Need-from-word-requires Inv-loop μ-loop
 from-word-requires c κs = search needs
 
-slice-aggregate-unite : tie.Need-slice-aggregate-unite Inv-loop μ-loop
-slice-aggregate-unite c = sym (c .before .before .before .before .loop .inv .2 .whole)
-
 difference-requires : tie.Need-difference-requires Inv-loop μ-loop
 difference-requires c κs = search needs
 
@@ -77,12 +74,12 @@ loop-less c = search needs
 loop-again : tie.Need-loop-again Inv-loop μ-loop
 unfolding neighbours only
 loop-again c =
-    let d = c .before .before in
+    let d = c .before in
     let l = d .before .before .before .before .before .loop in
     let a = d .before .before .before .before .before .before .before .before .before .args in
     let row = neighbours (a .n) (a .words .now) (a .from + l .t) (a .u) in
-    let e : c .before .unite .last .0 ≡ united (l .columns) (difference row (full (a .u + 1))) (only (l .t)) =
-    c .before .unite .ensures
+    let e : c .unite .last .0 ≡ united (l .columns) (difference row (full (a .u + 1))) (only (l .t)) =
+    c .unite .ensures
     ∙ ap₂ (united (l .columns)) (d .difference .ensures ∙ ap₂ difference (d .before .before .from-word .ensures) (l .inv .1)) (one-shl (l .t) (omega arith)) in
     (search needs, l .inv .1, rw e (columns-more (a .n) (a .words .now) (a .u) (a .from) (l .t) (l .inv .2)))
 
@@ -92,8 +89,8 @@ returns c =
     let e : c .before .loop .t ≡ min wordBits (a .ticks - a .from) = omega arith in
     rw e at (c .before .loop .inv .2)
 
-pub columns-of-spec : {M : Type 1} → statement M
-columns-of-spec =
+pub gather-columns-spec : {M : Type 1} → statement M
+gather-columns-spec =
     tie.close
     (tie.spec
     Inv-loop
@@ -108,7 +105,6 @@ columns-of-spec =
     mul-from-word-2
     shared-slice-read-from-word
     from-word-requires
-    slice-aggregate-unite
     difference-requires
     shl-unite
     unite-requires
