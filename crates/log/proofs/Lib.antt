@@ -1,9 +1,10 @@
--- Laws of the definitions in specs/, from the bottom up. Other crates cite TidyForm, Delivering and TidyCall.
+-- Laws of the definitions in specs/, from the bottom up. Other crates cite TidyForm, TidyCount, Delivering and TidyCall.
 
 -- the runs of a pair, and the tidy form
 pub mod Runs
 pub mod PairRuns
 pub mod TidyForm
+pub mod TidyCount
 -- the ticks in which two badges meet
 pub mod TickSets
 pub mod Gathering

@@ -93,7 +93,7 @@ pub tidy-form : (n T : ℕ) (r : ℕ → ℕ → ℕ → Bool) → IsTidy n T (�
 tidy-form n T r = record { exactly = λ c. (tidy-of n T r c, tidy-in n T r c); sorted = sorted-tidy n T r }
 
 -- coming before, part by part
-before-parts : {c d : Record} → Before c d
+pub before-parts : {c d : Record} → Before c d
     → (smallerOf c ≤ smallerOf d) × (smallerOf c ≡ smallerOf d → (largerOf c ≤ largerOf d) × (largerOf c ≡ largerOf d → firstOf c < firstOf d))
 before-parts (by-smaller h) = (omega arith, λ e. absurd (omega arith))
 before-parts (by-larger e h) = (omega arith, λ e′. (omega arith, λ f. absurd (omega arith)))

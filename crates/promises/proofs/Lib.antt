@@ -2,7 +2,6 @@
 
 -- reading, tidying and writing
 pub mod ReadTheorems
-pub mod TidyCount
 pub mod TidyTheorems
 pub mod WriteTheorems
 -- small logs and days, on which substitutes are tried

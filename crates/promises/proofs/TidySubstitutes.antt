@@ -27,8 +27,8 @@ use Rattle.days.specs.Calls.{Read}
 use Rattle.log.specs.Tidy.{runStart, runEnds, runAt, runsOf, rowRuns, tidyContacts, tidyLog}
 use Rattle.log.specs.Calls.{Tidied}
 use Rattle.log.proofs.TidyForm.{tidy-unique}
+use Rattle.log.proofs.TidyCount.{log-runs}
 use Rattle.promises.specs.Tidying.{SameMeaning, HasTidied, FoundShort, Tidies}
-use Rattle.promises.proofs.TidyTheorems.{log-runs}
 use Rattle.promises.proofs.SmallLogs.{meeting, never, once, twice, bytesOf, never-log, once-log, twice-log, two, met}
 
 -- memory of so many bytes or words

@@ -1,5 +1,5 @@
 -- Theorems of tidying and writing: demand 2 as it stands in specs/Tidying, proved of the calls.
-use mathlib.Core.Path.{_≡_, refl, sym, ap, ap₂, _∙_, subst}
+use mathlib.Core.Path.{_≡_, refl, sym, ap, ap₂, _∙_}
 use mathlib.Core.Bool.{Bool, true, false}
 use mathlib.Core.List.{List, _++_}
 use mathlib.Core.Logic.{_↔_}
@@ -11,13 +11,12 @@ use lib.ListN.{length, drop}
 use borrow.Author.Tests.{ltb-true, ltb-false}
 use Rattle.sets.proofs.Bools.{same-test}
 use Rattle.records.specs.declared.record.Record.{Record}
-use Rattle.records.specs.Limits.{maxContacts, wordsFor}
+use Rattle.records.specs.Limits.{wordsFor}
 use Rattle.records.specs.Outcomes.{Outcome, refused, success}
 use Rattle.records.specs.Judging.{judge}
 use Rattle.records.specs.Meaning.{badgesOf, ticksOf, inContact}
-use Rattle.records.specs.Logs.{logRecords, IsLog, Met}
+use Rattle.records.specs.Logs.{logRecords, IsLog}
 use Rattle.records.proofs.Outcomes.{refused-success, refused-number, success-same}
-use Rattle.records.proofs.Accepting.{accepted-of}
 use Rattle.records.proofs.Numbers.{judge-number}
 use Rattle.records.proofs.Meaning.{contact-swap}
 use Rattle.records.proofs.Theorems.{log-accepted, met-in, met-of, met-below, met-apart}
@@ -25,15 +24,15 @@ use Rattle.days.specs.Days.{dayWords}
 use Rattle.days.specs.Calls.{Read, readOf}
 use Rattle.days.proofs.Days.{day-same}
 use Rattle.days.proofs.ReadCall.{Case, log-refused, words-few, words-enough, case-of}
-use Rattle.log.specs.Tidy.{IsTidy, tidyContacts, tidyLog}
+use Rattle.log.specs.Tidy.{tidyContacts, tidyLog}
 use Rattle.log.specs.Buffers.{Delivered, deliver}
 use Rattle.log.specs.Calls.{tidyBefore9, Tidied, tidyOf}
-use Rattle.log.proofs.TidyForm.{tidy-form, tidy-meet, tidy-valid, tidy-met-in, tidy-met-of}
+use Rattle.log.proofs.TidyForm.{tidy-valid, tidy-met-in, tidy-met-of}
+use Rattle.log.proofs.TidyCount.{log-runs, tidy-count, accepted-few}
 use Rattle.log.proofs.Delivering.{bytes-few, deliver-short, deliver-fits}
 use Rattle.log.proofs.TidyCall.{log-same, before9-refused, before9-few, before9-enough, tidy-delivers}
 use Rattle.promises.specs.Reading.{HoldsDay}
 use Rattle.promises.specs.Tidying.{SameMeaning, HasTidied, FoundShort, Recovers, IsTidied, Tidies, tidiedJudged, tidiedOf}
-use Rattle.promises.proofs.TidyCount.{tidy-count}
 use Rattle.promises.proofs.ReadTheorems.{read-log, reads}
 
 -- the same meaning, one way round and the other, and of three logs
@@ -74,10 +73,6 @@ delivered d words = record { answer = d .answer; words = words; buffer = d .buff
 tidied-is : (log : List ℕ) (n T : ℕ) (cts : List Record) → IsLog log n T cts → tidiedOf log ≡ tidyLog n T (inContact (logRecords n T cts))
 unfolding tidiedOf tidiedJudged logRecords badgesOf ticksOf
 tidied-is log n T cts l = ap tidiedJudged (log-accepted log n T cts l)
-
--- the tidy list of a log is that of its contacts
-pub log-runs : (n T : ℕ) (cts : List Record) → IsTidy n T (Met cts) (tidyContacts n T (inContact (logRecords n T cts)))
-log-runs n T cts = tidy-meet n T _ (Met cts) _ (λ t u v h k m. (met-of n T cts t u v, met-in n T cts t u v)) (tidy-form n T (inContact (logRecords n T cts)))
 
 module _ (log : List ℕ) (n T : ℕ) (cts : List Record) (l : IsLog log n T cts) where
   abbrev runs : List Record
@@ -209,19 +204,14 @@ delivered-16 bytes buffer e = go (ltb (length buffer) (length bytes)) refl
     go false f = refused-success (sym (answer (deliver-fits bytes buffer (ltb-false _ _ f))))
 
 pub tidy-never-16 : (log work buffer : List ℕ) → tidyOf log work buffer .answer ≡ refused 16 0 → ⊥
-unfolding tidyOf judge deliver
+unfolding tidyOf deliver
 tidy-never-16 log work buffer e = go (case-of log work)
   where
     answer : {o : Outcome (List ℕ)} → tidyBefore9 log work ≡ o → deliver o buffer .answer ≡ refused 16 0
     answer f = ap (λ (x : Outcome (List ℕ)). deliver x buffer .answer) (sym f) ∙ e
 
-    few : (rs : List Record) → judge log ≡ success rs → length (tidyContacts (badgesOf rs) (ticksOf rs) (inContact rs)) ≤ maxContacts
-    few rs f =
-        let a = accepted-of 0 log rs f in
-        le-trans (subst (λ (x : List Record). length (tidyContacts (badgesOf rs) (ticksOf rs) (inContact x)) ≤ length (a .cts)) (sym (a .records)) (tidy-count _ _ (a .cts) (a .valid))) (a .few)
-
     go : Case log work → ⊥
     go (log-refused k p f) = let n = refused-number (answer (before9-refused log work k p f)) in omega (arith, judge-number log k p f)
     go (words-few rs f h) = let n = refused-number (answer (before9-few log work rs f h)) in omega arith
     go (words-enough rs f h) =
-        delivered-16 (tidyLog (badgesOf rs) (ticksOf rs) (inContact rs)) buffer (answer (before9-enough log work rs f h ∙ bytes-few 16 _ _ (inContact rs) (few rs f)))
+        delivered-16 (tidyLog (badgesOf rs) (ticksOf rs) (inContact rs)) buffer (answer (before9-enough log work rs f h ∙ bytes-few 16 _ _ (inContact rs) (accepted-few log rs f)))

@@ -9,3 +9,4 @@ pub mod Tables
 pub mod Walks
 pub mod Concat
 pub mod Pairwise
+pub mod Pigeonhole
