@@ -15,8 +15,7 @@
  * 31, ward_write 49, ward_tidy 49, ward_report 62.
  *
  * Every call writes all five numbers of `answer`. On a refusal the first is its number and the second its byte offset, and the others are
- * 0; a refused call changes nothing else, except that ward_tidy refused by WARD_BUFFER_TOO_SHORT or WARD_TIDY_TOO_MANY leaves the day in
- * its work words. On success the first two are 0; badges and ticks are what ward_read found, else 0; count is the number of contact
+ * 0; a refused call changes nothing else, except that ward_tidy refused by WARD_BUFFER_TOO_SHORT leaves the day in its work words. On success the first two are 0; badges and ticks are what ward_read found, else 0; count is the number of contact
  * records for ward_read, and the number of bytes written for the others. Memory after the answer is unchanged. */
 #ifndef WARD_H
 #define WARD_H
@@ -44,7 +43,8 @@ enum {
     WARD_COUNT = 4
 };
 
-/* The refusals, by number. The offset is the start of the refused record for 1 to 6, of the first extra byte for 7, and 0 otherwise. */
+/* The refusals, by number. The offset is the start of the refused record for 1 to 6, of the first extra byte for 7, and 0 otherwise. 16 is
+ * unused: it was ward_tidy's for a tidy log that is too long, which no log can bring about, and no other refusal will ever get it. */
 enum {
     WARD_SUCCESS = 0,
     WARD_CUT_SHORT = 1,              /* the bytes end inside a record, or where one must start */
@@ -62,7 +62,6 @@ enum {
     WARD_FOREIGN_QUERY = 13,         /* the query has a badge that the day does not have */
     WARD_INVALID_PARTS = 14,         /* no parts, or more than there are ticks */
     WARD_WRITE_TOO_MANY = 15,        /* the tidy log would need more than 8,000 contact records */
-    WARD_TIDY_TOO_MANY = 16,         /* the same, of ward_tidy; it cannot occur */
     WARD_THRESHOLD_OUT_OF_RANGE = 17 /* least ticks not 1 to 96, least order not 1 to 63, or least members not 2 to 64 */
 };
 
@@ -70,7 +69,8 @@ enum {
  * first badges * ticks words is set. Refused by 1 to 7, in the log's own order, then 8. */
 void ward_read(const uint8_t *log, size_t log_len, uint64_t *words, size_t words_len, uint64_t answer[5]);
 
-/* Tidies a log: two logs that mean the same give the same bytes. Leaves the day in the work words. Refused by 1 to 7, 8, 16, 9. */
+/* Tidies a log: two logs that mean the same give the same bytes, and no more contact records than came in. Leaves the day in the work
+ * words. Refused by 1 to 7, in the log's own order, then 8, then 9. */
 void ward_tidy(const uint8_t *log, size_t log_len, uint64_t *work, size_t work_len, uint8_t *out, size_t out_len, uint64_t answer[5]);
 
 /* Writes day words as their tidy log. Refused by 10, 8, 11, 15, 9. */

@@ -91,11 +91,14 @@ static size_t threshold(size_t from, size_t to) {
     return below(20) == 0 ? odd[below(5)] : from + below(3);
 }
 
-/* Whether the five numbers, all ones before the call, are an answer: a refusal by its number and offset, or a success by its values, and else 0. */
+/* Whether the five numbers, all ones before the call, are an answer: a refusal by its number and offset, or a success by its values, and else 0.
+ * No call gives a number above its last, and none gives 16. */
 static int is_answer(size_t call, const uint64_t answer[5]) {
+    static const uint64_t last[CALLS] = {WARD_TOO_FEW_WORDS, WARD_BUFFER_TOO_SHORT,       WARD_WRITE_TOO_MANY,
+                                         WARD_INVALID_SPAN,  WARD_THRESHOLD_OUT_OF_RANGE, WARD_INVALID_PARTS};
     uint64_t number = answer[WARD_NUMBER], values = answer[WARD_BADGES] | answer[WARD_TICKS];
     if (number != WARD_SUCCESS)
-        return number <= WARD_THRESHOLD_OUT_OF_RANGE && (number <= WARD_TRAILING_BYTES || answer[WARD_OFFSET] == 0) && (values | answer[WARD_COUNT]) == 0;
+        return number <= last[call] && number != 16 && (number <= WARD_TRAILING_BYTES || answer[WARD_OFFSET] == 0) && (values | answer[WARD_COUNT]) == 0;
     return answer[WARD_OFFSET] == 0 && answer[WARD_COUNT] <= WARD_REPORT_BYTES && (call == 0 ? values < 128 : values == 0);
 }
 

@@ -148,4 +148,10 @@ requested-holds =
     then refl
     then refl
     then refl
+    -- tidy: how many records come out, and its order
+    then refl
+    then refl
+    then refl
+    then refl
+    then refl
     then none

@@ -15,7 +15,7 @@ use Rattle.days.specs.Days.{neighbours, adjacent, tickWords, dayWords, dayOf, i
 use Rattle.days.specs.Calls.{readJudged, readOf, checkOf}
 use Rattle.log.specs.Tidy.{runStart, runEnds, runAt, runsOf, rowRuns, tidyContacts, tidyLog}
 use Rattle.log.specs.Buffers.{deliver}
-use Rattle.log.specs.Calls.{tidyBytes, writeOf, tidyBefore9, tidyOf}
+use Rattle.log.specs.Calls.{writeJudged, writeOf, tidyBefore9, tidyOf}
 use Rattle.cores.specs.Graphs.{degree}
 use Rattle.cores.specs.Cores.{strip, strips, core}
 use Rattle.cores.specs.Orders.{largest, coreNumber, contains, score}
@@ -47,7 +47,7 @@ sets-computing = 0
 
 -- records, judging a log, days, tidy logs and the calls of the log part
 log-computing : ℕ
-unfolding sets-computing withinLimits fieldsOf encode encodeAll isMark markFrom recordFrom decodeMarked decode refuseIf andThen validContact judgeKind judgeValues judgeDecoded judgeRecord prepend judgeIn judgeFrom judge badgesOf ticksOf contactsOf covers inContact valuesOf logRecords neighbours adjacent tickWords dayWords dayOf isTick isDay runStart runEnds runAt runsOf rowRuns tidyContacts tidyLog deliver readJudged readOf checkOf tidyBytes writeOf tidyBefore9 tidyOf
+unfolding sets-computing withinLimits fieldsOf encode encodeAll isMark markFrom recordFrom decodeMarked decode refuseIf andThen validContact judgeKind judgeValues judgeDecoded judgeRecord prepend judgeIn judgeFrom judge badgesOf ticksOf contactsOf covers inContact valuesOf logRecords neighbours adjacent tickWords dayWords dayOf isTick isDay runStart runEnds runAt runsOf rowRuns tidyContacts tidyLog deliver readJudged readOf checkOf writeJudged writeOf tidyBefore9 tidyOf
 log-computing = 0
 
 -- cores, cuttings, and the calls of the group part

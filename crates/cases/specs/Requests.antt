@@ -4,8 +4,8 @@ use Prim.Native.Nat.{ℕ}
 use Rattle.records.specs.Outcomes.{refused, success}
 use Rattle.thresholds.specs.Ranges.{leastOf}
 use Rattle.promises.specs.D1.{badges, d1Words}
-use Rattle.cases.specs.RecordBytes.{ED, RH, GR}
-use Rattle.cases.specs.Rows.{Row, report, length-of}
+use Rattle.cases.specs.RecordBytes.{BH, CT, ED, RH, GR}
+use Rattle.cases.specs.Rows.{Row, tidy, report, length-of}
 use Rattle.cases.specs.Table.{sevens}
 
 -- reports of D1 that keep one of its two groups, "order 2, 0 to 1, {0,1,2}" and "order 1, 0 to 2, {2,3}", and none
@@ -45,4 +45,11 @@ requested =
     ∷ report 4 3 (sevens 12) (leastOf 0 1 2) (sevens 36) (refused 11 0) (sevens 36)
     ∷ report 4 3 (sevens 11) (leastOf 0 1 2) (sevens 36) (refused 8 0) (sevens 36)
     ∷ report 4 0 [] (leastOf 0 1 2) (sevens 36) (refused 10 0) (sevens 36)
+    -- "Two. .. Joining runs can't produce more records than came in": as many where no two touch, and one where all do
+    ∷ tidy (BH 2 5 ++ CT 0 1 4 4 ++ CT 1 0 0 0 ++ CT 0 1 2 2 ++ ED 3) (sevens 10) (sevens 28) (success 28) (2 ∷ 1 ∷ 0 ∷ 0 ∷ 2 ∷ 1 ∷ 0 ∷ 0 ∷ 2 ∷ 1 ∷ []) (BH 2 5 ++ CT 0 1 0 0 ++ CT 0 1 2 2 ++ CT 0 1 4 4 ++ ED 3)
+    ∷ tidy (BH 2 3 ++ CT 0 1 2 2 ++ CT 1 0 0 0 ++ CT 0 1 1 1 ++ ED 3) (sevens 6) (sevens 16) (success 16) (2 ∷ 1 ∷ 2 ∷ 1 ∷ 2 ∷ 1 ∷ []) (BH 2 3 ++ CT 0 1 0 2 ++ ED 1)
+    -- "The order of tidy becomes log, 8, 9", each with all that come after it
+    ∷ tidy (BH 2 3 ++ CT 0 1 0 2 ++ ED 2) (sevens 5) (sevens 15) (refused 6 10) (sevens 5) (sevens 15)
+    ∷ tidy (BH 2 3 ++ CT 0 1 0 2 ++ ED 1) (sevens 5) (sevens 15) (refused 8 0) (sevens 5) (sevens 15)
+    ∷ tidy (BH 2 3 ++ CT 0 1 0 2 ++ ED 1) (sevens 6) (sevens 15) (refused 9 0) (2 ∷ 1 ∷ 2 ∷ 1 ∷ 2 ∷ 1 ∷ []) (sevens 15)
     ∷ []

@@ -21,7 +21,7 @@ use Rattle.log.specs.Buffers.{place}
 use Rattle.log.specs.Tidy.{runAt, runsOf, tidyContacts, tidyLog}
 use Rattle.log.specs.TickSets.{First}
 use Rattle.log.specs.Writing.{Appends, offsetAfter, Encodes}
-use Rattle.log.proofs.Delivering.{take-place}
+use Rattle.log.proofs.Delivering.{take-place, length-place}
 use Rattle.log.proofs.PairRuns.{RunTo, run-apart, run-inside, run-last}
 
 -- nothing is appended
@@ -98,17 +98,17 @@ module _ (T : ℕ) (r : ℕ → ℕ → ℕ → Bool) (u : ℕ) where
       appends-more (largerRuns T r u) v i (subst (λ (cs : List Record). Appends cs b c y z) same j)
 
 -- header, contact records and end are the tidy log
-module _ (n T : ℕ) (ws : List ℕ) (count : ℕ) (header contacts : List ℕ) (e : Appends (tidyContacts n T (adjacent n ws)) 0 count header contacts) where
+module _ (n T : ℕ) (ws : List ℕ) (count : ℕ) (header contacts : List ℕ) (e : Appends (tidyContacts n T (adjacent n ws)) 0 count header contacts) (l : maxLogBytes ≤ length contacts) where
   number : count ≡ min (suc maxContacts) (length (tidyContacts n T (adjacent n ws)))
   number = omega (arith, e .number)
 
   pub encodes-many : maxContacts < count → Encodes n T ws count contacts
-  encodes-many h = record { number = number; bytes = λ l. absurd (omega arith) }
+  encodes-many h = record { number = number; bytes = λ m. absurd (omega arith); long = l }
 
-  pub encodes-whole : (before whole : List ℕ) → count ≤ maxContacts → maxLogBytes ≤ length before → maxLogBytes ≤ length contacts
+  pub encodes-whole : (before whole : List ℕ) → count ≤ maxContacts → maxLogBytes ≤ length before
       → header ≡ place 0 (encode (Header n T)) before → whole ≡ place (offsetAfter count) (encode (End count)) contacts → Encodes n T ws count whole
   unfolding tidyLog logRecords encodeAll
-  encodes-whole before whole h k l f g =
+  encodes-whole before whole h k f g =
       let cs = tidyContacts n T (adjacent n ws) in
       let first : 0 + length (encode (Header n T)) ≡ 4 = omega (arith, length-encode (Header n T)) in
       let last : length (encode (End count)) ≡ 6 = length-encode (End count) in
@@ -121,4 +121,5 @@ module _ (n T : ℕ) (ws : List ℕ) (count : ℕ) (header contacts : List ℕ) 
             rw (size, g) (take-place (offsetAfter count) (encode (End count)) contacts (omega arith))
             ∙ ap₂ (λ (x y : List ℕ). x ++ y) (e .bytes h ∙ ap (λ (s : List ℕ). s ++ encodeAll cs) start) (ap (λ (c : ℕ). encode (End c)) few ∙ sym (append-nil (encode (End (length cs)))))
             ∙ sym (encode-append (Header n T ∷ cs) (End (length cs) ∷ []));
+        long = omega (arith, ap length g, length-place (offsetAfter count) (encode (End count)) contacts (omega arith));
       }

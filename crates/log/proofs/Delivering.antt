@@ -1,21 +1,18 @@
--- Laws of bytes that are laid over a buffer, and of the tidy log that is put into the buffer that is lent.
+-- Laws of bytes that are laid over a buffer, and of an answer that is put into the buffer that is lent.
 use mathlib.Core.Path.{_≡_, sym, ap, _∙_}
-use mathlib.Core.Bool.{Bool, true}
+use mathlib.Core.Bool.{true}
 use mathlib.Core.List.{List, _++_, append-assoc}
-use Prim.Native.Nat.{ℕ, _+_, _*_, _≤_, _<_}
+use Prim.Native.Nat.{ℕ, _+_, _≤_, _<_}
 use native.Mathlib.Nat.{zero-add}
 use native.Mathlib.Omega.{arith}
 use lib.ListN.{length, take, drop}
 use lib.Seq.{paste, take-length, take-paste, length-paste, drop-paste}
 use borrow.Author.Tests.{lt-ltb, le-ltb, le-leb, lt-leb}
-use Rattle.records.specs.Limits.{maxContacts, withinLimits, wordsFor}
-use Rattle.records.specs.Outcomes.{Outcome, refused, success, refuseIf, andThen}
+use Rattle.records.specs.Limits.{withinLimits, wordsFor}
+use Rattle.records.specs.Outcomes.{Outcome, refused, success, andThen}
 use Rattle.records.proofs.WithinLimits.{limits-of}
-use Rattle.days.specs.Days.{adjacent}
 use Rattle.log.specs.Buffers.{deliver, overwrite, place}
-use Rattle.log.specs.Tidy.{tidyContacts, tidyLog}
-use Rattle.log.specs.Writing.{Writable, Encodes}
-use Rattle.log.specs.Calls.{tidyBytes}
+use Rattle.log.specs.Writing.{Writable}
 
 -- words enough for n and T within their limits
 pub writable : {n T : ℕ} {ws : List ℕ} → withinLimits n T ≡ true → wordsFor n T ≤ length ws → Writable n T ws
@@ -53,16 +50,6 @@ length-place at bytes buffer h = rw (place-fits at bytes buffer h, overwrite-pas
 pub drop-place : (at : ℕ) (bytes buffer : List ℕ) → at + length bytes ≤ length buffer → drop (at + length bytes) (place at bytes buffer) ≡ drop (at + length bytes) buffer
 drop-place at bytes buffer h = rw (place-fits at bytes buffer h, overwrite-paste at bytes buffer) (drop-paste buffer at bytes (length bytes) (omega arith) (omega arith))
 
--- more than 8,000 contact records are refused, and no more than that make the tidy log
-module _ (number n T : ℕ) (r : ℕ → ℕ → ℕ → Bool) where
-  pub bytes-many : maxContacts < length (tidyContacts n T r) → tidyBytes number n T r ≡ refused number 0
-  unfolding tidyBytes refuseIf
-  bytes-many h = rw (tidyBytes, lt-ltb maxContacts (length (tidyContacts n T r)) h)
-
-  pub bytes-few : length (tidyContacts n T r) ≤ maxContacts → tidyBytes number n T r ≡ success (tidyLog n T r)
-  unfolding tidyBytes refuseIf
-  bytes-few h = rw (tidyBytes, le-ltb maxContacts (length (tidyContacts n T r)) h)
-
 -- what is judged before an answer: a refusal is delivered as it is, and the answer follows where there is none
 module _ {A : Type 0} (o : Outcome A) (further : A → Outcome (List ℕ)) (buffer : List ℕ) where
   pub deliver-refused : (number offset : ℕ) → o ≡ refused number offset → deliver (andThen o further) buffer ≡ record { answer = refused number offset; buffer = buffer }
@@ -82,13 +69,3 @@ module _ (bytes buffer : List ℕ) where
   pub deliver-fits : length bytes ≤ length buffer → deliver (success bytes) buffer ≡ record { answer = success (length bytes); buffer = bytes ++ drop (length bytes) buffer }
   unfolding deliver
   deliver-fits h = rw (deliver, le-ltb (length buffer) (length bytes) h)
-
--- what becomes of a tidy log that is encoded in memory of its own, with so many contact records: there are too many of them; or the log is
--- an answer like any other
-module _ {n T : ℕ} {ws : List ℕ} {count : ℕ} {log : List ℕ} (e : Encodes n T ws count log) (number : ℕ) (buffer : List ℕ) where
-  pub encoded-many : maxContacts < count → deliver (tidyBytes number n T (adjacent n ws)) buffer ≡ record { answer = refused number 0; buffer = buffer }
-  unfolding deliver
-  encoded-many h = rw (bytes-many number n T (adjacent n ws) (omega (arith, e .number)))
-
-  pub encoded-few : count ≤ maxContacts → deliver (tidyBytes number n T (adjacent n ws)) buffer ≡ deliver (success (take (10 + 6 * count) log)) buffer
-  encoded-few h = rw (bytes-few number n T (adjacent n ws) (omega (arith, e .number)), e .bytes h)

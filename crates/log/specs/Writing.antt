@@ -30,7 +30,9 @@ pub record Appends (cs : List Record) (count count′ : ℕ) (buffer buffer′ :
   pub number : count′ ≡ min (suc maxContacts) (count + length cs)
   pub bytes : count′ ≤ maxContacts → take (offsetAfter count′) buffer′ ≡ take (offsetAfter count) buffer ++ encodeAll cs
 
--- the number of contact records of a day's tidy log, up to one too many, and the log, as long as there are not too many
+-- the number of contact records of a day's tidy log, up to one too many, and the log, as long as there are not too many, in a buffer that
+-- holds any log
 pub record Encodes (n T : ℕ) (ws : List ℕ) (count : ℕ) (buffer : List ℕ) : Type 0 where
   pub number : count ≡ min (suc maxContacts) (length (tidyContacts n T (adjacent n ws)))
   pub bytes : count ≤ maxContacts → take (10 + 6 * count) buffer ≡ tidyLog n T (adjacent n ws)
+  pub long : maxLogBytes ≤ length buffer

@@ -1,19 +1,16 @@
 // The call that writes a day's words as a tidy log.
 ghost use mathlib.Core.Path.{_≡_};
-ghost use Prim.Native.Nat.{_≤_};
-ghost use lib.ListN.{length};
-ghost use Rattle.records.specs.Limits.{maxLogBytes};
-ghost use Rattle.records.specs.Outcomes.{success, numberOf, offsetOf};
-ghost use Rattle.days.specs.Days.{adjacent};
+ghost use Rattle.records.specs.Outcomes.{success};
 ghost use Rattle.log.specs.Buffers.{deliver};
 ghost use Rattle.log.specs.Writing.{Writable, Encodes};
-ghost use Rattle.log.specs.Calls.{tidyBytes, writeOf, writtenOutcome};
+ghost use Rattle.log.specs.Calls.{writeOf, writtenOutcome};
 use crate::encoding::put;
 use crate::encoding::put_record;
 use crate::pairs::append_row;
 use days::Checked;
 use days::check_words;
 use records::MAX_CONTACTS;
+use records::MAX_LOG_BYTES;
 use records::Record;
 use records::Refusal;
 
@@ -38,8 +35,13 @@ pub fn deliver(bytes: &[u8], buffer: &mut [u8]) -> Written
 
 // Encodes the tidy log of a day's words in a buffer that holds any log, and answers how many contact records it has: 8,001 stands for too
 // many, and the log is then not whole.
-fn encode_day(words: &[u64], n: usize, ticks: usize, log: &mut [u8]) -> usize
-    requires { ⌜ Writable n ticks (now words) × (maxLogBytes ≤ length (now log)) ⌝ }
+pub(crate) fn encode_day(
+    words: &[u64],
+    n: usize,
+    ticks: usize,
+    log: &mut [u8; MAX_LOG_BYTES],
+) -> usize
+    requires { ⌜ Writable n ticks (now words) ⌝ }
     ensures { λ r. ⌜ Encodes n ticks (now (words .entry)) r (now (log .exit)) ⌝ }
 {
     put_record(
@@ -68,35 +70,22 @@ fn encode_day(words: &[u64], n: usize, ticks: usize, log: &mut [u8]) -> usize
     count
 }
 
-// Puts the tidy log of a day's words into the buffer that is lent. The log is made once, in memory of its own, and measured; it is copied
-// if there are not too many contact records and the buffer holds it.
-pub(crate) fn deliver_log(
-    words: &[u64],
-    badges: usize,
-    ticks: usize,
-    too_many: Refusal,
-    buffer: &mut [u8],
-) -> Written
-    requires { ⌜ Writable badges ticks (now words) × (offsetOf «too_many» ≡ 0) ⌝ }
-    ensures answer { λ r. ⌜ writtenOutcome r ≡ deliver (tidyBytes (numberOf «too_many») badges ticks (adjacent badges (now (words .entry)))) (now (buffer .entry)) .answer ⌝ }
-    ensures leaves { λ _. ⌜ now (buffer .exit) ≡ deliver (tidyBytes (numberOf «too_many») badges ticks (adjacent badges (now (words .entry)))) (now (buffer .entry)) .buffer ⌝ }
-{
-    let mut log = [0u8; 48010];
-    let count = encode_day(words, badges, ticks, &mut log);
-    if count > MAX_CONTACTS {
-        return Written::Refused(too_many);
-    }
-    deliver(&log[..10 + 6 * count], buffer)
-}
-
 // Writes a day's words as a tidy log into the buffer that is lent, and answers the number of bytes. Refused by 10, 8, 11, 15 and 9, in that
-// order; a refused call changes no byte, and bytes after the answer are never touched.
+// order; a refused call changes no byte, and bytes after the answer are never touched. The log is made once, in memory of its own, and
+// measured; it is copied if there are not too many contact records and the buffer holds it.
 pub fn write(words: &[u64], badges: usize, ticks: usize, buffer: &mut [u8]) -> Written
     ensures answer { λ r. ⌜ writtenOutcome r ≡ writeOf badges ticks (now (words .entry)) (now (buffer .entry)) .answer ⌝ }
     ensures leaves { λ _. ⌜ now (buffer .exit) ≡ writeOf badges ticks (now (words .entry)) (now (buffer .entry)) .buffer ⌝ }
 {
     match check_words(words, badges, ticks) {
         Checked::Refused(refusal) => Written::Refused(refusal),
-        Checked::Day => deliver_log(words, badges, ticks, Refusal::TooManyToWrite, buffer),
+        Checked::Day => {
+            let mut log = [0u8; MAX_LOG_BYTES];
+            let count = encode_day(words, badges, ticks, &mut log);
+            if count > MAX_CONTACTS {
+                return Written::Refused(Refusal::TooManyToWrite);
+            }
+            deliver(&log[..10 + 6 * count], buffer)
+        }
     }
 }

@@ -19,3 +19,5 @@ pub mod NumberSubstitutes
 pub mod ReportSubstitutes
 pub mod ThresholdSubstitutes
 pub mod PlanSubstitutes
+-- the number that no refusal has
+pub mod UnusedNumber

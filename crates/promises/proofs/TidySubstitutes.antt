@@ -22,13 +22,14 @@ use Rattle.records.specs.Judging.{validContact}
 use Rattle.records.specs.Meaning.{covers, inContact}
 use Rattle.records.specs.Logs.{Mem, logRecords, IsLog}
 use Rattle.records.proofs.Outcomes.{refused-success, success-same}
+use Rattle.records.proofs.Numbers.{judge-number}
 use Rattle.days.specs.Days.{neighbours}
 use Rattle.days.specs.Calls.{Read}
 use Rattle.log.specs.Tidy.{runStart, runEnds, runAt, runsOf, rowRuns, tidyContacts, tidyLog}
 use Rattle.log.specs.Calls.{Tidied}
 use Rattle.log.proofs.TidyForm.{tidy-unique}
 use Rattle.log.proofs.TidyCount.{log-runs}
-use Rattle.promises.specs.Tidying.{SameMeaning, HasTidied, FoundShort, Tidies}
+use Rattle.promises.specs.Tidying.{SameMeaning, HasTidied, FoundShort, TidyRefusal, by-log, by-8, by-9, Tidies}
 use Rattle.promises.proofs.SmallLogs.{meeting, never, once, twice, bytesOf, never-log, once-log, twice-log, two, met}
 
 -- memory of so many bytes or words
@@ -179,3 +180,13 @@ bound-before-measuring read tidy tidied bound e p =
 
     measures : FoundShort 4 3 fiveRuns twelve lent (tidy (encodeAll (logRecords 4 3 fiveRuns)) twelve lent)
     measures = p .measures _ twelve lent 4 3 fiveRuns five-log enough (omega (arith, long, ap length (promised-bytes p _ 4 3 fiveRuns five-log), five-length))
+
+-- A message for a tidied log that is too long (request Two): no call that gives 16 keeps the promise, whatever it is lent.
+pub tidy-warning : (read : List ℕ → List ℕ → Read) (tidy : List ℕ → List ℕ → List ℕ → Tidied) (tidied : List ℕ → List ℕ) (log work buffer : List ℕ) (offset : ℕ)
+    → tidy log work buffer .answer ≡ refused 16 offset → Tidies read tidy tidied → ⊥
+tidy-warning read tidy tidied log work buffer offset e p = go (p .refuses log work buffer 16 offset e) refl
+  where
+    go : {number offset : ℕ} → TidyRefusal log number offset → number ≡ 16 → ⊥
+    go (by-log f) g = omega (arith, judge-number log _ _ f)
+    go by-8 g = omega arith
+    go by-9 g = omega arith

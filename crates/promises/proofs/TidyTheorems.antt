@@ -5,7 +5,6 @@ use mathlib.Core.List.{List, _++_}
 use mathlib.Core.Logic.{_↔_}
 use Prim.Native.Nat.{ℕ, _≤_, _<_}
 use native.Mathlib.Nat.{le-trans}
-use native.Mathlib.Omega.{arith}
 use lib.Dec.{ltb}
 use lib.ListN.{length, drop}
 use borrow.Author.Tests.{ltb-true, ltb-false}
@@ -16,8 +15,7 @@ use Rattle.records.specs.Outcomes.{Outcome, refused, success}
 use Rattle.records.specs.Judging.{judge}
 use Rattle.records.specs.Meaning.{badgesOf, ticksOf, inContact}
 use Rattle.records.specs.Logs.{logRecords, IsLog}
-use Rattle.records.proofs.Outcomes.{refused-success, refused-number, success-same}
-use Rattle.records.proofs.Numbers.{judge-number}
+use Rattle.records.proofs.Outcomes.{refused-success, success-same}
 use Rattle.records.proofs.Meaning.{contact-swap}
 use Rattle.records.proofs.Theorems.{log-accepted, met-in, met-of, met-below, met-apart}
 use Rattle.days.specs.Days.{dayWords}
@@ -28,11 +26,11 @@ use Rattle.log.specs.Tidy.{tidyContacts, tidyLog}
 use Rattle.log.specs.Buffers.{Delivered, deliver}
 use Rattle.log.specs.Calls.{tidyBefore9, Tidied, tidyOf}
 use Rattle.log.proofs.TidyForm.{tidy-valid, tidy-met-in, tidy-met-of}
-use Rattle.log.proofs.TidyCount.{log-runs, tidy-count, accepted-few}
-use Rattle.log.proofs.Delivering.{bytes-few, deliver-short, deliver-fits}
+use Rattle.log.proofs.TidyCount.{log-runs, tidy-count}
+use Rattle.log.proofs.Delivering.{deliver-short, deliver-fits}
 use Rattle.log.proofs.TidyCall.{log-same, before9-refused, before9-few, before9-enough, tidy-delivers}
 use Rattle.promises.specs.Reading.{HoldsDay}
-use Rattle.promises.specs.Tidying.{SameMeaning, HasTidied, FoundShort, Recovers, IsTidied, Tidies, tidiedJudged, tidiedOf}
+use Rattle.promises.specs.Tidying.{SameMeaning, HasTidied, FoundShort, Recovers, IsTidied, TidyRefusal, by-log, by-8, by-9, Tidies, tidiedJudged, tidiedOf}
 use Rattle.promises.proofs.ReadTheorems.{read-log, reads}
 
 -- the same meaning, one way round and the other, and of three logs
@@ -118,8 +116,7 @@ module _ (log : List ℕ) (n T : ℕ) (cts : List Record) (l : IsLog log n T cts
   module _ (work : List ℕ) (h : wordsFor n T ≤ length work) where
     tidy-bytes : tidyBefore9 log work ≡ success (tidiedOf log)
     unfolding logRecords badgesOf ticksOf
-    tidy-bytes = before9-enough log work (logRecords n T cts) (log-accepted log n T cts l) h
-        ∙ bytes-few 16 n T (inContact (logRecords n T cts)) (tidied-log .few) ∙ ap success (sym (tidied-is log n T cts l))
+    tidy-bytes = before9-enough log work (logRecords n T cts) (log-accepted log n T cts l) h ∙ ap success (sym (tidied-is log n T cts l))
 
     holds : HoldsDay n T cts work (readOf log work .words)
     holds = reads log work n T cts l h .day
@@ -175,11 +172,32 @@ tidy-recovers log lent n T cts l h =
     words : (bytes : List ℕ) (cs : List Record) → IsLog bytes n T cs → readOf bytes lent .words ≡ dayWords n T (inContact (logRecords n T cs)) ++ drop (wordsFor n T) lent
     words bytes cs k = ap (λ (x : Read). x .words) (read-log bytes lent n T cs k h)
 
+-- Tidy refuses by the log's own refusal, 8 and 9 alone.
+pub tidy-refuses : (log work buffer : List ℕ) (number offset : ℕ) → tidyOf log work buffer .answer ≡ refused number offset → TidyRefusal log number offset
+unfolding deliver
+tidy-refuses log work buffer number offset e = go (case-of log work)
+  where
+    answer : {o : Outcome (List ℕ)} → tidyBefore9 log work ≡ o → deliver o buffer .answer ≡ refused number offset
+    answer f = ap (λ (x : Tidied). x .answer) (sym (tidy-delivers log work buffer f)) ∙ e
+
+    same : {k o : ℕ} → _≡_ {A = Outcome ℕ} (refused k o) (refused number offset) → TidyRefusal log k o → TidyRefusal log number offset
+    same {k} {o} f r = let x : k ≡ number = cc in let y : o ≡ offset = cc in rw (← x, ← y) r
+
+    measured : (bytes : List ℕ) (b : Bool) → ltb (length buffer) (length bytes) ≡ b → deliver (success bytes) buffer .answer ≡ refused number offset → TidyRefusal log number offset
+    measured bytes true f g = same (ap (λ (d : Delivered). d .answer) (sym (deliver-short bytes buffer (ltb-true _ _ f))) ∙ g) by-9
+    measured bytes false f g = absurd (refused-success (sym g ∙ ap (λ (d : Delivered). d .answer) (deliver-fits bytes buffer (ltb-false _ _ f))))
+
+    go : Case log work → TidyRefusal log number offset
+    go (log-refused k p f) = same (answer (before9-refused log work k p f)) (by-log f)
+    go (words-few rs f h) = same (answer (before9-few log work rs f h)) by-8
+    go (words-enough rs f h) = measured (tidyLog (badgesOf rs) (ticksOf rs) (inContact rs)) _ refl (answer (before9-enough log work rs f h))
+
 -- Tidying keeps its promise.
 pub tidies : Tidies readOf tidyOf tidiedOf
 tidies = record {
   succeeds = λ log work buffer n T cts l h. tidy-succeeds log n T cts l work h buffer;
   measures = λ log work buffer n T cts l h. tidy-measures log n T cts l work h buffer;
+  refuses = tidy-refuses;
   decides = tidy-decides;
   recovers = tidy-recovers;
   form = tidied-form;
@@ -191,27 +209,3 @@ pub tidy-work : (log work work′ buffer : List ℕ) → length work ≡ length 
     → (tidyOf log work buffer .answer ≡ tidyOf log work′ buffer .answer) × (tidyOf log work buffer .buffer ≡ tidyOf log work′ buffer .buffer)
 unfolding tidyOf tidyBefore9
 tidy-work log work work′ buffer e = (rw e, rw e)
-
--- Tidy is never refused by 16: joining runs makes no more contact records than came in.
-delivered-16 : (bytes buffer : List ℕ) → deliver (success bytes) buffer .answer ≡ refused 16 0 → ⊥
-delivered-16 bytes buffer e = go (ltb (length buffer) (length bytes)) refl
-  where
-    answer : {d : Delivered} → deliver (success bytes) buffer ≡ d → d .answer ≡ refused 16 0
-    answer f = ap (λ (x : Delivered). x .answer) (sym f) ∙ e
-
-    go : (b : Bool) → ltb (length buffer) (length bytes) ≡ b → ⊥
-    go true f = let n = refused-number (answer (deliver-short bytes buffer (ltb-true _ _ f))) in omega arith
-    go false f = refused-success (sym (answer (deliver-fits bytes buffer (ltb-false _ _ f))))
-
-pub tidy-never-16 : (log work buffer : List ℕ) → tidyOf log work buffer .answer ≡ refused 16 0 → ⊥
-unfolding tidyOf deliver
-tidy-never-16 log work buffer e = go (case-of log work)
-  where
-    answer : {o : Outcome (List ℕ)} → tidyBefore9 log work ≡ o → deliver o buffer .answer ≡ refused 16 0
-    answer f = ap (λ (x : Outcome (List ℕ)). deliver x buffer .answer) (sym f) ∙ e
-
-    go : Case log work → ⊥
-    go (log-refused k p f) = let n = refused-number (answer (before9-refused log work k p f)) in omega (arith, judge-number log k p f)
-    go (words-few rs f h) = let n = refused-number (answer (before9-few log work rs f h)) in omega arith
-    go (words-enough rs f h) =
-        delivered-16 (tidyLog (badgesOf rs) (ticksOf rs) (inContact rs)) buffer (answer (before9-enough log work rs f h ∙ bytes-few 16 _ _ (inContact rs) (accepted-few log rs f)))

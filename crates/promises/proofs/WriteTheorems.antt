@@ -19,16 +19,17 @@ use Rattle.records.specs.Logs.{Mem, logRecords, IsLog, Met}
 use Rattle.records.proofs.Verdicts.{values-log}
 use Rattle.records.proofs.Theorems.{met-in, met-of}
 use Rattle.days.specs.Days.{neighbours, adjacent, dayWords}
-use Rattle.days.specs.Calls.{readOf}
+use Rattle.days.specs.Calls.{readOf, checkOf}
 use Rattle.days.proofs.Days.{neighbours-take, day-by}
 use Rattle.days.proofs.Checks.{check-day, check-rest}
 use Rattle.days.proofs.ReadCall.{left}
 use Rattle.log.specs.Tidy.{IsTidy, tidyContacts, tidyLog}
 use Rattle.log.specs.Buffers.{deliver}
-use Rattle.log.specs.Calls.{tidyBytes, writeOf}
-use Rattle.log.proofs.TidyForm.{tidy-form, tidy-unique, tidy-meet, tidy-valid, tidy-met-in, tidy-met-of}
-use Rattle.log.proofs.Delivering.{bytes-many, bytes-few, deliver-short, deliver-fits}
-use Rattle.log.proofs.TidyCall.{adjacent-append, bytes-same, write-passed}
+use Rattle.log.specs.Calls.{writeJudged, writeOf}
+use Rattle.log.proofs.TidyForm.{tidy-form, tidy-same, tidy-unique, tidy-meet, tidy-valid, tidy-met-in, tidy-met-of}
+use Rattle.log.proofs.Delivering.{deliver-short, deliver-fits}
+use Rattle.log.proofs.TidyCall as log
+use Rattle.log.proofs.TidyCall.{adjacent-append, write-few}
 use Rattle.promises.specs.WrittenDays.{HasRuns, logBytes, Writes}
 use Rattle.promises.proofs.ReadTheorems.{read-log}
 
@@ -42,13 +43,12 @@ module _ (n T : ℕ) (ws : List ℕ) (runs : List Record) (h : HasRuns n T ws ru
   runs-are : runs ≡ tidyContacts n T (adjacent n ws)
   runs-are = tidy-unique _ _ (h .tidy) (day-runs n T ws)
 
-  passes : (buffer : List ℕ) → writeOf n T ws buffer ≡ deliver (tidyBytes 15 n T (adjacent n ws)) buffer
-  passes buffer = write-passed n T ws buffer (check-day n T ws (h .lent .limits) (h .lent .enough) (h .lent .day))
+  passes : checkOf n T ws ≡ success tt
+  passes = check-day n T ws (h .lent .limits) (h .lent .enough) (h .lent .day)
 
   whole : (buffer : List ℕ) → length runs ≤ maxContacts → writeOf n T ws buffer ≡ deliver (success (logBytes n T runs)) buffer
   unfolding tidyLog
-  whole buffer k = passes buffer ∙ ap (λ (o : Outcome (List ℕ)). deliver o buffer)
-      (bytes-few 15 n T (adjacent n ws) (subst (λ (cs : List Record). length cs ≤ maxContacts) runs-are k) ∙ ap (λ (cs : List Record). success (logBytes n T cs)) (sym runs-are))
+  whole buffer k = write-few n T ws buffer passes (subst (λ (cs : List Record). length cs ≤ maxContacts) runs-are k) (ap (logBytes n T) runs-are)
 
   pub write-succeeds : (buffer : List ℕ) → length runs ≤ maxContacts → length (logBytes n T runs) ≤ length buffer
       → writeOf n T ws buffer ≡ record { answer = success (length (logBytes n T runs)); buffer = logBytes n T runs ++ drop (length (logBytes n T runs)) buffer }
@@ -58,8 +58,7 @@ module _ (n T : ℕ) (ws : List ℕ) (runs : List Record) (h : HasRuns n T ws ru
   write-measures buffer k l = whole buffer k ∙ deliver-short (logBytes n T runs) buffer l
 
   pub write-many : (buffer : List ℕ) → maxContacts < length runs → writeOf n T ws buffer ≡ record { answer = refused 15 0; buffer = buffer }
-  unfolding deliver
-  write-many buffer k = passes buffer ∙ ap (λ (o : Outcome (List ℕ)). deliver o buffer) (bytes-many 15 n T (adjacent n ws) (subst (λ (cs : List Record). maxContacts < length cs) runs-are k))
+  write-many buffer k = log.write-many n T ws buffer passes (subst (λ (cs : List Record). maxContacts < length cs) runs-are k)
 
   -- the log that is written means the day's contacts
   met-neighbours : (t u v : ℕ) → t < T → u < n → In (neighbours n ws t u) v ↔ Met runs t u v
@@ -102,8 +101,8 @@ writes = record {
 
 -- Words after the first n×T make no difference.
 pub write-rest : (n T : ℕ) (ws xs ys buffer : List ℕ) → length ws ≡ wordsFor n T → writeOf n T (ws ++ xs) buffer ≡ writeOf n T (ws ++ ys) buffer
-unfolding writeOf
-write-rest n T ws xs ys buffer e = ap (λ (o : Outcome (List ℕ)). deliver o buffer) (ap₂ (λ (c : Outcome (Unit {0})) (b : Outcome (List ℕ)). andThen c (λ x. b)) (check-rest n T ws xs ys e) (bytes-same 15 n T _ _ same))
+unfolding writeOf writeJudged tidyLog
+write-rest n T ws xs ys buffer e = ap (λ (o : Outcome (List ℕ)). deliver o buffer) (ap₂ (λ (c : Outcome (Unit {0})) (b : Outcome (List ℕ)). andThen c (λ x. b)) (check-rest n T ws xs ys e) (rw (tidy-same n T _ _ same) refl))
   where
     same : (t u v : ℕ) → t < T → u < n → v < n → adjacent n (ws ++ xs) t u v ≡ adjacent n (ws ++ ys) t u v
     same t u v a b c = adjacent-append n T ws xs t u v e a b ∙ sym (adjacent-append n T ws ys t u v e a b)

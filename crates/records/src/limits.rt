@@ -8,6 +8,9 @@ pub const MAX_TICKS: usize = 96;
 
 pub const MAX_CONTACTS: usize = 8000;
 
+// A header, the contacts and an end.
+pub const MAX_LOG_BYTES: usize = 10 + 6 * MAX_CONTACTS;
+
 // Whether n and T are within their limits.
 pub fn within_limits(badges: usize, ticks: usize) -> bool
     ensures { λ r. ⌜ r ≡ withinLimits badges ticks ⌝ }

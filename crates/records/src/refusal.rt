@@ -27,8 +27,6 @@ pub enum Refusal {
     NotADay,
     // 15: write would need more than 8,000 CT.
     TooManyToWrite,
-    // 16: tidy would need more than 8,000 CT.
-    TooManyToTidy,
 }
 
 impl Refusal {
@@ -49,7 +47,6 @@ impl Refusal {
             Refusal::SizeOutOfLimits => 10,
             Refusal::NotADay => 11,
             Refusal::TooManyToWrite => 15,
-            Refusal::TooManyToTidy => 16,
         }
     }
 
@@ -70,7 +67,6 @@ impl Refusal {
             Refusal::SizeOutOfLimits => 0,
             Refusal::NotADay => 0,
             Refusal::TooManyToWrite => 0,
-            Refusal::TooManyToTidy => 0,
         }
     }
 }

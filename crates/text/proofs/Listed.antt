@@ -16,10 +16,9 @@ use Rattle.records.specs.Verdicts.{valuesOf}
 use Rattle.records.proofs.Outcomes.{refused-success, refused-same}
 use Rattle.records.proofs.Accepting.{accepted-of}
 use Rattle.records.proofs.WithinLimits.{limits-of, words-most}
-use Rattle.days.specs.Days.{LentDay, dayOf}
+use Rattle.days.specs.Days.{dayOf}
 use Rattle.days.specs.Calls.{Read}
 use Rattle.days.proofs.Days.{day-length, neighbours-append}
-use Rattle.days.proofs.Checks.{check-passed}
 use Rattle.days.proofs.ReadCall.{read-refused, read-success}
 use Rattle.log.specs.Buffers.{Delivered}
 use Rattle.log.proofs.Delivering.{deliver-passed, deliver-fits}
@@ -45,16 +44,13 @@ report-shown n T groups rest h =
     let said = decode-cores (ascii "GR") refl groups (encode (End (length groups)) ++ rest) h in
     rw (count, append-assoc (encodeCores (ascii "GR") groups) (encode (End (length groups))) rest, said)
 
--- the words of an accepted log, with any words after them, are a lent day
+-- the words of an accepted log pass the check, with any words after them, which make no difference to the groups
 module _ (log : List ℕ) (rs : List Record) (e : judge log ≡ success rs) where
   abbrev n : ℕ
   n = badgesOf rs
 
   abbrev T : ℕ
   T = ticksOf rs
-
-  accepted-lent : (rest : List ℕ) → LentDay n T (dayOf rs ++ rest)
-  accepted-lent rest = check-passed n T (dayOf rs ++ rest) (accepted-passes log rs rest e)
 
   accepted-groups : (rest : List ℕ) → groupsOf n T (dayOf rs ++ rest) ≡ groupsOf n T (dayOf rs)
   unfolding dayOf

@@ -117,8 +117,8 @@ pub fn read(log: &[u8], words: &mut [u64]) -> Result<Day, Refused> {
     Ok(Day { badges: answer[2] as usize, ticks: answer[3] as usize, contacts: answer[4] as usize })
 }
 
-/// Tidies a log into a buffer, and gives the number of bytes. Two logs that mean the same give the same bytes. The work words hold the day
-/// once the log and their number have passed.
+/// Tidies a log into a buffer, and gives the number of bytes. Two logs that mean the same give the same bytes, and no more contact records
+/// than came in. The work words hold the day once the log and their number have passed.
 ///
 /// ```
 /// let (mut work, mut out) = ([0u64; ward::WORDS], [0u8; ward::LOG_BYTES]);
@@ -213,8 +213,13 @@ fn refused(answer: Answer) -> Result<(), Refused> {
     if answer[0] == 0 {
         return Ok(());
     }
-    let refusal = Refusal::from_number(answer[0]).expect("a call answers by 0 to 17");
-    Err(Refused { refusal, offset: answer[1] as usize })
+    Err(refusal(answer))
+}
+
+#[cold]
+fn refusal(answer: Answer) -> Refused {
+    let refusal = Refusal::from_number(answer[0]).expect("the number of a refusal");
+    Refused { refusal, offset: answer[1] as usize }
 }
 
 fn written(answer: Answer) -> Result<usize, Refused> {

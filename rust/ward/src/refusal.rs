@@ -3,14 +3,16 @@
 use std::error::Error;
 use std::fmt;
 
-/// A refusal, in the order of its numbers, 1 to 17.
+/// A refusal, in the order of its numbers: 1 to 15, and 17. 16 is unused, and no refusal will ever get it.
 ///
 /// ```
 /// use ward::Refusal;
 /// assert_eq!(Refusal::NotADay.number(), 11);
 /// assert_eq!(Refusal::from_number(11), Some(Refusal::NotADay));
-/// assert_eq!((1..=17).map(|k| Refusal::from_number(k).unwrap().number() as u64).collect::<Vec<_>>(), (1..=17).collect::<Vec<_>>());
-/// assert_eq!((Refusal::from_number(0), Refusal::from_number(18)), (None, None));
+/// for number in (1..=15).chain([17]) {
+///     assert_eq!(Refusal::from_number(number).map(|refusal| refusal.number() as u64), Some(number));
+/// }
+/// assert_eq!([0, 16, 18].map(Refusal::from_number), [None; 3]);
 /// ```
 #[derive(Clone, Copy, Debug, PartialEq, Eq)]
 pub enum Refusal {
@@ -29,13 +31,12 @@ pub enum Refusal {
     ForeignQuery,
     InvalidParts,
     WriteTooMany,
-    TidyTooMany,
-    ThresholdOutOfRange,
+    ThresholdOutOfRange = 17,
 }
 
 use Refusal::*;
 
-const ALL: [(Refusal, &str); 17] = [
+const ALL: [(Refusal, &str); 16] = [
     (CutShort, "the bytes end inside a record, or where one must start"),
     (WrongMark, "the mark is not that of a record that may stand there"),
     (HeaderOutOfLimits, "badges not 1 to 64, or ticks not 1 to 96"),
@@ -51,15 +52,13 @@ const ALL: [(Refusal, &str); 17] = [
     (ForeignQuery, "the query has a badge that the day does not have"),
     (InvalidParts, "no parts, or more than there are ticks"),
     (WriteTooMany, "the tidy log would need more than 8,000 contact records"),
-    (TidyTooMany, "the tidy log would need more than 8,000 contact records"),
     (ThresholdOutOfRange, "least ticks not 1 to 96, least order not 1 to 63, or least members not 2 to 64"),
 ];
 
 impl Refusal {
-    /// The refusal of a number; none for 0, which is success, and for a number above 17.
+    /// The refusal of a number; none for 0, which is success, for 16, and for a number above 17.
     pub fn from_number(number: u64) -> Option<Refusal> {
-        let place = usize::try_from(number.checked_sub(1)?).ok()?;
-        ALL.get(place).map(|refusal| refusal.0)
+        ALL.iter().map(|row| row.0).find(|refusal| *refusal as u64 == number)
     }
 
     /// Its number in the paper.
@@ -84,8 +83,8 @@ pub struct Refused {
 
 impl fmt::Display for Refused {
     fn fmt(&self, f: &mut fmt::Formatter<'_>) -> fmt::Result {
-        let number = self.refusal.number();
-        write!(f, "refused {} at {}: {}", number, self.offset, ALL[number as usize - 1].1)
+        let meaning = ALL.iter().find(|row| row.0 == self.refusal).map_or("", |row| row.1);
+        write!(f, "refused {} at {}: {}", self.refusal.number(), self.offset, meaning)
     }
 }
 

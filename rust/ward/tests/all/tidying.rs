@@ -9,6 +9,7 @@ use crate::support::logs::{all_in_contact, long, random_log, with_one_byte_chang
 use crate::support::random::Random;
 use crate::support::refused_logs;
 use crate::support::seen::all_seen;
+use std::collections::BTreeSet;
 
 /// A tidy log tidies to itself, and reads as a day with as many contacts as it has records.
 pub fn settles(tidied: &[u8]) {
@@ -55,6 +56,31 @@ fn most_contacts() {
     assert_eq!(tidy(&long(4, 3, 8001), 40, 60), Err((5, 48004)));
 }
 
+/// Logs of 8,000 runs, in any order and from either side: as many contacts come out as came in, the most that a log can have. With the ticks between
+/// them bridged, the runs of each pair become one.
+#[test]
+fn as_many_as_came_in() {
+    let mut random = Random(16);
+    for runs in [runs_by_pair().take(8000).collect::<Vec<_>>(), runs_by_tick().take(8000).collect()] {
+        let mut contacts: Vec<[u8; 4]> = runs.iter().map(|&(t, u, v)| [u, v, t, t].map(|x| x as u8)).collect();
+        contacts.sort();
+        let tidied = model::log_bytes(64, 96, &contacts);
+        for k in 0..contacts.len() {
+            contacts.swap(k, random.below(k + 1));
+            let [a, b, first, last] = contacts[k];
+            contacts[k] = if random.below(2) == 0 { [a, b, first, last] } else { [b, a, first, last] };
+        }
+        let log = model::log_bytes(64, 96, &contacts);
+        assert_eq!((log.len(), tidied.len()), (48010, 48010));
+        assert_eq!(tidy(&log, 6144, 48009), Err((9, 0)));
+        assert_eq!(tidy(&log, 6144, 48010), Ok(tidied));
+        let bridged: Vec<[u8; 4]> = contacts.iter().map(|&[a, b, first, _]| [a, b, first, first + 1]).collect();
+        let pairs = runs.iter().map(|&(_, u, v)| (u, v)).collect::<BTreeSet<_>>().len();
+        assert_eq!(tidy(&model::log_bytes(64, 96, &bridged), 6144, 48010).map(|log| log.len()), Ok(10 + 6 * pairs));
+    }
+    all_seen("tidy", &[9]);
+}
+
 /// A day of so many runs: 8,000 fill a log of 48,010 bytes; more are refused by 15, before any buffer is too short.
 fn compare_runs(words: &[u64], count: usize) {
     let day = Handed::new(words, 64, 96);
@@ -77,7 +103,7 @@ fn most_runs() {
     all_seen("write", &[9, 15]);
 }
 
-/// All refusals of tidy but 5, above, and 16, which no log can bring about, as it has no fewer contacts than runs: 1 to 7, 8, 9, in this order.
+/// All refusals of tidy but 5, above: 1 to 7, 8, 9, in this order.
 #[test]
 fn tidy_refusals() {
     for (refusal, log) in refused_logs::all() {

@@ -34,7 +34,7 @@ loop-holds c = (search needs, refl, appends-none _ _ (omega arith))
 
 append-row-requires : tie.Need-append-row-requires Inv-loop μ-loop
 append-row-requires c κs =
-    (c .before .before .before .before .before .before .before .before .before .pre .0, record { counted = omega (arith, c .before .before .loop .inv .2 .number); long = omega arith }, search needs)
+    (c .before .before .before .before .before .before .pre, record { counted = omega (arith, c .before .before .loop .inv .2 .number); long = omega arith }, search needs)
 
 add-u : tie.Need-add-u Inv-loop μ-loop
 add-u c = search needs
@@ -44,23 +44,20 @@ loop-less c = search needs
 
 loop-again : tie.Need-loop-again Inv-loop μ-loop
 loop-again c =
-    let i = c .before .before .before .before .before .loop in
-    let a = c .before .before .before .before .before .before .before .before .before .before .before .before .args in
-    (search needs, omega arith, appends-more (rowRuns (a .n) (a .ticks) (adjacent (a .n) (a .words .now))) (i .u) (i .inv .2) (c .before .before .append-row .ensures))
+    let i = c .before .before .before .loop in
+    let a = c .before .before .before .before .before .before .before .args in
+    (search needs, omega arith, appends-more (rowRuns (a .n) (a .ticks) (adjacent (a .n) (a .words .now))) (i .u) (i .inv .2) (c .append-row .ensures))
 
 -- after the loop the runs of all badges are encoded
 rows : (c : tie.After-loop Inv-loop μ-loop) →
-    let a = c .before .before .before .before .before .before .before .before .args in Appends (tidyContacts (a .n) (a .ticks) (adjacent (a .n) (a .words .now))) 0 (c .before .loop .count) (c .before .before .before .before .put-record .last .0) (c .before .loop .log)
+    let a = c .before .before .before .before .before .args in Appends (tidyContacts (a .n) (a .ticks) (adjacent (a .n) (a .words .now))) 0 (c .before .loop .count) (c .before .before .put-record .last .0) (c .before .loop .log)
 unfolding tidyContacts
 rows c =
-    let e : c .before .loop .u ≡ c .before .before .before .before .before .before .before .before .args .n = omega (arith, c .loop-test .left) in
+    let e : c .before .loop .u ≡ c .before .before .before .before .before .args .n = omega (arith, c .loop-test .left) in
     rw e at (c .before .loop .inv .2)
 
-same-length : tie.Need-same-length Inv-loop μ-loop
-same-length c = search needs
-
 returns : tie.Need-returns Inv-loop μ-loop
-returns c = encodes-many _ _ _ _ _ _ (rows (c .before)) (c .if1 .taken)
+returns c = encodes-many _ _ _ _ _ _ (rows (c .before)) (omega arith) (c .if1 .taken)
 
 mul-put-record : tie.Need-mul-put-record Inv-loop μ-loop
 mul-put-record c = search needs
@@ -74,11 +71,10 @@ cast-t22 c = search needs
 put-record-requires-2 : tie.Need-put-record-requires-2 Inv-loop μ-loop
 put-record-requires-2 c κs = search needs
 
-same-length-2 : tie.Need-same-length-2 Inv-loop μ-loop
-same-length-2 c = search needs
-
 returns-2 : tie.Need-returns-2 Inv-loop μ-loop
-returns-2 c = encodes-whole _ _ _ _ _ _ (rows (c .before .before .before .before .before)) _ _ (c .before .before .before .before .if1 .left) (omega arith) (omega arith) (c .before .before .before .before .before .before .before .before .before .put-record .ensures) (c .before .before .put-record2 .ensures)
+returns-2 c =
+    let l = c .before .before .before in
+    encodes-whole _ _ _ _ _ _ (rows l) (omega arith) _ _ (c .before .before .if1 .left) (omega arith) (l .before .before .put-record .ensures) (c .put-record2 .ensures)
 
 pub encode-day-spec : {M : Type 1} → statement M
 encode-day-spec =
@@ -94,11 +90,9 @@ encode-day-spec =
     add-u
     loop-less
     loop-again
-    same-length
     returns
     mul-put-record
     add-put-record
     cast-t22
     put-record-requires-2
-    same-length-2
     returns-2)

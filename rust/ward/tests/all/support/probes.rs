@@ -27,7 +27,7 @@ pub type Piece = (Result<usize, Refusal>, usize, usize);
 
 fn piece([number, offset, size, next, bytes]: [u64; 5]) -> Piece {
     let prepared = if number == 0 { Ok(size as usize) } else { Err((number as u8, offset as usize)) };
-    assert!(number == 0 && offset == 0 || number <= 16 && size == 0, "an answer of prepare");
+    assert!(number == 0 && offset == 0 || number <= 9 && size == 0, "an answer of prepare");
     (prepared, next as usize, bytes as usize)
 }
 

@@ -1,0 +1,14 @@
+-- The number 16 stays unused: no refusal has it, neither of the log part nor of the group part.
+use mathlib.Core.Path.{_≡_}
+use native.Mathlib.Omega.{arith}
+use Rattle.records.proofs.Numbers as log
+use Rattle.groups.specs.declared.refusal.Refusal.{Refusal}
+use Rattle.groups.specs.declared.refusal.Refusal.the-variants as r
+use Rattle.groups.specs.Refusals.{numberOf}
+
+pub never-16 : (x : Refusal) → numberOf x ≡ 16 → ⊥
+never-16 (r.Log x) e = log.never-16 x e
+never-16 r.InvalidSpan e = omega arith
+never-16 r.ForeignQuery e = omega arith
+never-16 r.InvalidParts e = omega arith
+never-16 r.ThresholdOutOfRange e = omega arith
