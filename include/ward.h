@@ -15,8 +15,9 @@
  * 31, ward_write 49, ward_tidy 49, ward_report 62.
  *
  * Every call writes all five numbers of `answer`. On a refusal the first is its number and the second its byte offset, and the others are
- * 0; a refused call changes nothing else, except that ward_tidy refused by WARD_BUFFER_TOO_SHORT leaves the day in its work words. On success the first two are 0; badges and ticks are what ward_read found, else 0; count is the number of contact
- * records for ward_read, and the number of bytes written for the others. Memory after the answer is unchanged. */
+ * 0; a refused call changes nothing else, except that ward_tidy refused by WARD_BUFFER_TOO_SHORT leaves the day in its work words. On
+ * success the first two are 0; badges and ticks are what ward_read found, else 0; count is the number of contact records for ward_read,
+ * and the number of bytes written for the others. Memory after the answer is unchanged. */
 #ifndef WARD_H
 #define WARD_H
 
