@@ -17,9 +17,9 @@ use Rattle.records.specs.declared.record.Record.{Record}
 use Rattle.records.specs.declared.record.Record.the-variants.{Contact}
 use Rattle.records.specs.Limits.{withinLimits, wordsFor}
 use Rattle.records.specs.Records.{fieldsOf, encode, encodeAll}
-use Rattle.records.specs.Outcomes.{Outcome, refused}
-use Rattle.records.specs.Judging.{validContact}
-use Rattle.records.specs.Meaning.{covers, inContact}
+use Rattle.records.specs.Outcomes.{Outcome, refused, success}
+use Rattle.records.specs.Judging.{validContact, judge}
+use Rattle.records.specs.Meaning.{badgesOf, ticksOf, covers, inContact}
 use Rattle.records.specs.Logs.{Mem, logRecords, IsLog}
 use Rattle.records.proofs.Outcomes.{refused-success, success-same}
 use Rattle.records.proofs.Numbers.{judge-number}
@@ -181,12 +181,31 @@ bound-before-measuring read tidy tidied bound e p =
     measures : FoundShort 4 3 fiveRuns twelve lent (tidy (encodeAll (logRecords 4 3 fiveRuns)) twelve lent)
     measures = p .measures _ twelve lent 4 3 fiveRuns five-log enough (omega (arith, long, ap length (promised-bytes p _ 4 3 fiveRuns five-log), five-length))
 
--- A message for a tidied log that is too long (request Two): no call that gives 16 keeps the promise, whatever it is lent.
-pub tidy-warning : (read : List ℕ → List ℕ → Read) (tidy : List ℕ → List ℕ → List ℕ → Tidied) (tidied : List ℕ → List ℕ) (log work buffer : List ℕ) (offset : ℕ)
-    → tidy log work buffer .answer ≡ refused 16 offset → Tidies read tidy tidied → ⊥
-tidy-warning read tidy tidied log work buffer offset e p = go (p .refuses log work buffer 16 offset e) refl
-  where
-    go : {number offset : ℕ} → TidyRefusal log number offset → number ≡ 16 → ⊥
-    go (by-log f) g = omega (arith, judge-number log _ _ f)
-    go by-8 g = omega arith
-    go by-9 g = omega arith
+-- Substitutes that refuse otherwise than by "log, 8, 9" (request Two), whatever they are lent:
+module _ (read : List ℕ → List ℕ → Read) (tidy : List ℕ → List ℕ → List ℕ → Tidied) (tidied : List ℕ → List ℕ) (log work buffer : List ℕ) (offset : ℕ) where
+  -- a message for a tidied log that is too long;
+  pub tidy-warning : tidy log work buffer .answer ≡ refused 16 offset → Tidies read tidy tidied → ⊥
+  tidy-warning e p = go (p .refuses log work buffer 16 offset e) refl
+    where
+      go : {k o : ℕ} → TidyRefusal log work buffer (tidied log) k o → k ≡ 16 → ⊥
+      go (by-log f) g = omega (arith, judge-number log _ _ f)
+      go (by-8 f h) g = omega arith
+      go (by-9 f h l) g = omega arith
+
+  -- 8 before the log is judged;
+  pub tidy-8-first : (number at : ℕ) → judge log ≡ refused number at → tidy log work buffer .answer ≡ refused 8 offset → Tidies read tidy tidied → ⊥
+  tidy-8-first number at d e p = go (p .refuses log work buffer 8 offset e) refl
+    where
+      go : {k o : ℕ} → TidyRefusal log work buffer (tidied log) k o → k ≡ 8 → ⊥
+      go (by-log f) g = omega (arith, judge-number log _ _ f)
+      go (by-8 f h) g = refused-success (sym d ∙ f)
+      go (by-9 f h l) g = omega arith
+
+  -- 9 before the words are counted
+  pub tidy-9-first : (rs : List Record) → judge log ≡ success rs → length work < wordsFor (badgesOf rs) (ticksOf rs) → tidy log work buffer .answer ≡ refused 9 offset → Tidies read tidy tidied → ⊥
+  tidy-9-first rs d m e p = go (p .refuses log work buffer 9 offset e) refl
+    where
+      go : {k o : ℕ} → TidyRefusal log work buffer (tidied log) k o → k ≡ 9 → ⊥
+      go (by-log f) g = omega (arith, judge-number log _ _ f)
+      go (by-8 f h) g = omega arith
+      go (by-9 {rs = qs} f h l) g = let same : qs ≡ rs = success-same (sym f ∙ d) in let k : wordsFor (badgesOf rs) (ticksOf rs) ≤ length work = rw same at h in omega arith

@@ -172,25 +172,29 @@ tidy-recovers log lent n T cts l h =
     words : (bytes : List ℕ) (cs : List Record) → IsLog bytes n T cs → readOf bytes lent .words ≡ dayWords n T (inContact (logRecords n T cs)) ++ drop (wordsFor n T) lent
     words bytes cs k = ap (λ (x : Read). x .words) (read-log bytes lent n T cs k h)
 
--- Tidy refuses by the log's own refusal, 8 and 9 alone.
-pub tidy-refuses : (log work buffer : List ℕ) (number offset : ℕ) → tidyOf log work buffer .answer ≡ refused number offset → TidyRefusal log number offset
-unfolding deliver
+-- Tidy refuses by the log's own refusal, 8 and 9 alone, in this order.
+pub tidy-refuses : (log work buffer : List ℕ) (number offset : ℕ) → tidyOf log work buffer .answer ≡ refused number offset → TidyRefusal log work buffer (tidiedOf log) number offset
+unfolding deliver tidiedOf tidiedJudged
 tidy-refuses log work buffer number offset e = go (case-of log work)
   where
+    Refuses : ℕ → ℕ → Type 0
+    Refuses k o = TidyRefusal log work buffer (tidiedOf log) k o
+
     answer : {o : Outcome (List ℕ)} → tidyBefore9 log work ≡ o → deliver o buffer .answer ≡ refused number offset
     answer f = ap (λ (x : Tidied). x .answer) (sym (tidy-delivers log work buffer f)) ∙ e
 
-    same : {k o : ℕ} → _≡_ {A = Outcome ℕ} (refused k o) (refused number offset) → TidyRefusal log k o → TidyRefusal log number offset
+    same : {k o : ℕ} → _≡_ {A = Outcome ℕ} (refused k o) (refused number offset) → Refuses k o → Refuses number offset
     same {k} {o} f r = let x : k ≡ number = cc in let y : o ≡ offset = cc in rw (← x, ← y) r
 
-    measured : (bytes : List ℕ) (b : Bool) → ltb (length buffer) (length bytes) ≡ b → deliver (success bytes) buffer .answer ≡ refused number offset → TidyRefusal log number offset
-    measured bytes true f g = same (ap (λ (d : Delivered). d .answer) (sym (deliver-short bytes buffer (ltb-true _ _ f))) ∙ g) by-9
-    measured bytes false f g = absurd (refused-success (sym g ∙ ap (λ (d : Delivered). d .answer) (deliver-fits bytes buffer (ltb-false _ _ f))))
+    measured : (rs : List Record) → judge log ≡ success rs → wordsFor (badgesOf rs) (ticksOf rs) ≤ length work → (b : Bool) → ltb (length buffer) (length (tidiedOf log)) ≡ b
+        → deliver (success (tidiedOf log)) buffer .answer ≡ refused number offset → Refuses number offset
+    measured rs f h true k g = let short = ltb-true _ _ k in same (ap (λ (d : Delivered). d .answer) (sym (deliver-short (tidiedOf log) buffer short)) ∙ g) (by-9 f h short)
+    measured rs f h false k g = absurd (refused-success (sym g ∙ ap (λ (d : Delivered). d .answer) (deliver-fits (tidiedOf log) buffer (ltb-false _ _ k))))
 
-    go : Case log work → TidyRefusal log number offset
+    go : Case log work → Refuses number offset
     go (log-refused k p f) = same (answer (before9-refused log work k p f)) (by-log f)
-    go (words-few rs f h) = same (answer (before9-few log work rs f h)) by-8
-    go (words-enough rs f h) = measured (tidyLog (badgesOf rs) (ticksOf rs) (inContact rs)) _ refl (answer (before9-enough log work rs f h))
+    go (words-few rs f h) = same (answer (before9-few log work rs f h)) (by-8 f h)
+    go (words-enough rs f h) = measured rs f h _ refl (answer (before9-enough log work rs f h ∙ ap (λ (o : Outcome (List Record)). success (tidiedJudged o)) (sym f)))
 
 -- Tidying keeps its promise.
 pub tidies : Tidies readOf tidyOf tidiedOf

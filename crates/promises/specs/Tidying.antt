@@ -50,11 +50,12 @@ pub record IsTidied (n T : ℕ) (cts : List Record) (bytes : List ℕ) : Type 0 
   pub tidy : IsTidy n T (Met cts) runs
   pub fewer : length runs ≤ length cts
 
--- The refusals of tidy, by number and offset: "log, 8, 9".
-pub data TidyRefusal (log : List ℕ) : ℕ → ℕ → Type 0 where
-  by-log : {number offset : ℕ} → judge log ≡ refused number offset → TidyRefusal log number offset
-  by-8 : TidyRefusal log 8 0
-  by-9 : TidyRefusal log 9 0
+-- The refusals of tidy, by number and offset, in their order, "log, 8, 9": that of the log; 8 where the log is accepted and there are too few
+-- words; 9 where it is accepted, there are words enough, and the buffer is shorter than the tidy log.
+pub data TidyRefusal (log work buffer tidied : List ℕ) : ℕ → ℕ → Type 0 where
+  by-log : {number offset : ℕ} → judge log ≡ refused number offset → TidyRefusal log work buffer tidied number offset
+  by-8 : {rs : List Record} → judge log ≡ success rs → length work < wordsFor (badgesOf rs) (ticksOf rs) → TidyRefusal log work buffer tidied 8 0
+  by-9 : {rs : List Record} → judge log ≡ success rs → wordsFor (badgesOf rs) (ticksOf rs) ≤ length work → length buffer < length tidied → TidyRefusal log work buffer tidied 9 0
 
 -- A call that tidies every log, making these bytes of each:
 pub record Tidies (read : List ℕ → List ℕ → Read) (tidy : List ℕ → List ℕ → List ℕ → Tidied) (tidied : List ℕ → List ℕ) : Type 0 where
@@ -64,7 +65,8 @@ pub record Tidies (read : List ℕ → List ℕ → Read) (tidy : List ℕ → L
   pub measures : (log work buffer : List ℕ) (n T : ℕ) (cts : List Record) → IsLog log n T cts → wordsFor n T ≤ length work
       → length buffer < length (tidied log) → FoundShort n T cts work buffer (tidy log work buffer)
   -- whatever it is lent, it gives no other refusal
-  pub refuses : (log work buffer : List ℕ) (number offset : ℕ) → tidy log work buffer .answer ≡ refused number offset → TidyRefusal log number offset
+  pub refuses : (log work buffer : List ℕ) (number offset : ℕ) → tidy log work buffer .answer ≡ refused number offset
+      → TidyRefusal log work buffer (tidied log) number offset
   -- "two accepted logs tidy to equal bytes exactly when they mean the same"
   pub decides : (log : List ℕ) (n T : ℕ) (cts : List Record) (log′ : List ℕ) (n′ T′ : ℕ) (cts′ : List Record) → IsLog log n T cts → IsLog log′ n′ T′ cts′
       → (tidied log ≡ tidied log′) ↔ SameMeaning n T cts n′ T′ cts′
