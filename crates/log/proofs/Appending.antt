@@ -123,3 +123,7 @@ module _ (n T : ℕ) (ws : List ℕ) (count : ℕ) (header contacts : List ℕ) 
             ∙ sym (encode-append (Header n T ∷ cs) (End (length cs) ∷ []));
         long = omega (arith, ap length g, length-place (offsetAfter count) (encode (End count)) contacts (omega arith));
       }
+
+-- the memory holds a log with not too many contact records, and its header and end
+pub encoded-fits : {n T : ℕ} {ws : List ℕ} {count : ℕ} {buffer : List ℕ} → Encodes n T ws count buffer → count ≤ maxContacts → (more : ℕ) → more ≤ 10 → more + 6 * count ≤ length buffer
+encoded-fits e few more h = omega (arith, e .long)

@@ -1,9 +1,8 @@
 -- `tidy` meets its contract: reading's refusal, or what the tidy log's delivery comes to, and the words as reading leaves them. The log is
 -- encoded in memory for the longest one, which holds it since it has no more contact records than came in.
 use mathlib.Core.Path.{sym, ap, _∙_}
-use Prim.Native.Nat.{ℕ, _+_, _*_, _≤_}
+use Prim.Native.Nat.{_≤_}
 use native.Mathlib.Omega.{arith}
-use lib.ListN.{length}
 use lib.Seq.{length-take-le}
 use borrow.Author.Needs.{needs}
 use Rattle.records.specs.Limits.{maxContacts}
@@ -12,6 +11,7 @@ use Rattle.records.specs.Verdicts.{verdictOutcome}
 use Rattle.log.specs.Buffers.{deliver}
 use Rattle.log.specs.Calls.{Tidied}
 use Rattle.log.proofs.Delivering.{writable}
+use Rattle.log.proofs.Appending.{encoded-fits}
 use Rattle.log.proofs.TidyCall.{tidy-delivers, WasRead, was-read, unread-refused}
 use Rattle.log.proofs.tidying.tidy.Statement.{statement}
 use Rattle.log.proofs.tidying.tidy.Tie as tie
@@ -24,10 +24,6 @@ was c = let r = c .before .before .before .before in was-read _ _ _ _ _ _ (r .re
 -- there are not too many contact records
 counted : (c : tie.After-encode-day) → c .encode-day .result ≤ maxContacts
 counted c = omega (arith, was (c .before .before .before .before) .few, c .encode-day .ensures .number)
-
--- and the memory holds them, with a header and an end
-fits : (c : tie.After-encode-day) (more : ℕ) → more ≤ 10 → more + 6 * c .encode-day .result ≤ length (c .encode-day .last .1 .1 .1 .0)
-fits c more h = omega (arith, counted c, c .encode-day .ensures .long)
 
 read-requires : tie.Need-read-requires
 read-requires c κs = search needs
@@ -48,10 +44,10 @@ add-tidied : tie.Need-add-tidied
 add-tidied c = search needs
 
 array-share-prefix-tidied : tie.Need-array-share-prefix-tidied
-array-share-prefix-tidied c = fits c _ (omega arith)
+array-share-prefix-tidied c = encoded-fits (c .encode-day .ensures) (counted c) _ (omega arith)
 
 slice-aggregate-deliver : tie.Need-slice-aggregate-deliver
-slice-aggregate-deliver c = sym (length-take-le _ _ (fits (c .before) _ (omega arith)))
+slice-aggregate-deliver c = sym (length-take-le _ _ (encoded-fits (c .before .encode-day .ensures) (counted (c .before)) _ (omega arith)))
 
 deliver-requires : tie.Need-deliver-requires
 deliver-requires c κs = search needs

@@ -1,8 +1,6 @@
 -- `write` meets its contract: the refusal of the check, 15 where there are too many contact records, or what the tidy log's delivery comes to.
 use mathlib.Core.Path.{_≡_, sym, ap, _∙_}
-use Prim.Native.Nat.{_+_, _*_, _≤_}
 use native.Mathlib.Omega.{arith}
-use lib.ListN.{length}
 use lib.Seq.{length-take-le}
 use borrow.Author.Needs.{needs}
 use Rattle.records.specs.Outcomes.{success}
@@ -10,6 +8,7 @@ use Rattle.days.specs.Calls.{checkOf, checkedOutcome}
 use Rattle.days.proofs.Checks.{check-passed}
 use Rattle.log.specs.Buffers.{Delivered}
 use Rattle.log.proofs.Delivering.{writable}
+use Rattle.log.proofs.Appending.{encoded-fits}
 use Rattle.log.proofs.TidyCall.{write-refused, write-many, write-few}
 use Rattle.log.proofs.writing.write.Statement.{statement}
 use Rattle.log.proofs.writing.write.Tie as tie
@@ -17,10 +16,6 @@ use Rattle.log.proofs.writing.write.Tie as tie
 -- the check passed
 passed : (c : tie.After-enum-told) → let a = c .before .before .before .before .before .args in checkOf (a .badges) (a .ticks) (a .words .now) ≡ success tt
 passed c = sym (c .before .before .check-words .ensures) ∙ ap checkedOutcome (c .enum-told .given .1)
-
--- the memory holds a log with not too many contact records
-fits : (c : tie.Else1) → 10 + 6 * c .before .encode-day .result ≤ length (c .before .encode-day .last .1 .1 .1 .0)
-fits c = omega (arith, c .if1 .left, c .before .encode-day .ensures .long)
 
 check-words-requires : tie.Need-check-words-requires
 check-words-requires c κs = search needs
@@ -48,10 +43,10 @@ add-log : tie.Need-add-log
 add-log c = search needs
 
 array-share-prefix-log : tie.Need-array-share-prefix-log
-array-share-prefix-log c = fits c
+array-share-prefix-log c = encoded-fits (c .before .encode-day .ensures) (c .if1 .left) _ (omega arith)
 
 slice-aggregate-deliver : tie.Need-slice-aggregate-deliver
-slice-aggregate-deliver c = sym (length-take-le _ _ (fits (c .before)))
+slice-aggregate-deliver c = sym (length-take-le _ _ (encoded-fits (c .before .before .encode-day .ensures) (c .before .if1 .left) _ (omega arith)))
 
 deliver-requires : tie.Need-deliver-requires
 deliver-requires c κs = search needs
