@@ -91,14 +91,24 @@ static size_t threshold(size_t from, size_t to) {
     return below(20) == 0 ? odd[below(5)] : from + below(3);
 }
 
-/* Whether the five numbers, all ones before the call, are an answer: a refusal by its number and offset, or a success by its values, and else 0.
- * No call gives a number above its last, and none gives 16. */
+/* The refusals that the header names for each call, as sets of their numbers. */
+#define GIVES(number) ((uint32_t)1 << (number))
+#define LOG (GIVES(WARD_TRAILING_BYTES + 1) - GIVES(WARD_CUT_SHORT))
+#define CHECK (GIVES(WARD_SIZE_OUT_OF_LIMITS) | GIVES(WARD_TOO_FEW_WORDS) | GIVES(WARD_NOT_A_DAY) | GIVES(WARD_BUFFER_TOO_SHORT))
+static const uint32_t refusals[CALLS] = {LOG | GIVES(WARD_TOO_FEW_WORDS),
+                                         LOG | GIVES(WARD_TOO_FEW_WORDS) | GIVES(WARD_BUFFER_TOO_SHORT),
+                                         CHECK | GIVES(WARD_WRITE_TOO_MANY),
+                                         CHECK | GIVES(WARD_INVALID_SPAN),
+                                         CHECK | GIVES(WARD_THRESHOLD_OUT_OF_RANGE),
+                                         CHECK | GIVES(WARD_FOREIGN_QUERY) | GIVES(WARD_INVALID_PARTS)};
+
+/* Whether the five numbers, all ones before the call, are an answer: a refusal of the call by its number and offset, or a success by its values,
+ * and else 0. */
 static int is_answer(size_t call, const uint64_t answer[5]) {
-    static const uint64_t last[CALLS] = {WARD_TOO_FEW_WORDS, WARD_BUFFER_TOO_SHORT,       WARD_WRITE_TOO_MANY,
-                                         WARD_INVALID_SPAN,  WARD_THRESHOLD_OUT_OF_RANGE, WARD_INVALID_PARTS};
     uint64_t number = answer[WARD_NUMBER], values = answer[WARD_BADGES] | answer[WARD_TICKS];
     if (number != WARD_SUCCESS)
-        return number <= last[call] && number != 16 && (number <= WARD_TRAILING_BYTES || answer[WARD_OFFSET] == 0) && (values | answer[WARD_COUNT]) == 0;
+        return number < 32 && refusals[call] >> number & 1 && (number <= WARD_TRAILING_BYTES || answer[WARD_OFFSET] == 0) &&
+               (values | answer[WARD_COUNT]) == 0;
     return answer[WARD_OFFSET] == 0 && answer[WARD_COUNT] <= WARD_REPORT_BYTES && (call == 0 ? values < 128 : values == 0);
 }
 
