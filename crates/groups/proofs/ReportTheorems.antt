@@ -1,26 +1,23 @@
 -- Theorems of the report: the call's promise, as it stands in specs/GroupReports, holds; and what each of its buffers says.
 use mathlib.Core.Path.{_≡_, refl, sym, ap, _∙_}
-use mathlib.Core.Bool.{Bool, true, false}
+use mathlib.Core.Bool.{true, false}
 use mathlib.Core.List.{List, _++_}
-use mathlib.Core.Logic.{by-cases}
 use Prim.Native.Nat.{ℕ, _^_, _≤_, _<_}
-use native.Mathlib.Decide.{decLt}
 use native.Mathlib.Omega.{arith}
 use lib.ListN.{length, take, drop}
 use lib.Pow.{pow-mono}
-use lib.Seq.{take-at}
 use Rattle.sets.specs.Bools.{_and_, isnt}
 use Rattle.sets.specs.Sets.{full}
 use Rattle.sets.specs.Members.{capacity}
 use Rattle.sets.proofs.Sets.{full-lt, sub-lt}
 use Rattle.records.specs.Outcomes.{Outcome, refused, success, refuseIf, andThen}
-use Rattle.records.proofs.Outcomes.{refused-success, success-same}
+use Rattle.records.proofs.Outcomes.{success-same, refuse-passed, then-passed}
 use Rattle.records.proofs.WithinLimits.{limits-of}
 use Rattle.days.specs.Days.{LentDay}
 use Rattle.days.specs.Calls.{checkOf}
 use Rattle.days.proofs.Checks.{check-day, check-passed}
-use Rattle.log.specs.Buffers.{Delivered, deliver}
-use Rattle.log.proofs.Delivering.{deliver-refused, deliver-passed, deliver-short, deliver-fits}
+use Rattle.log.specs.Buffers.{deliver}
+use Rattle.log.proofs.Delivering.{deliver-refused, deliver-passed, deliver-short, deliver-fits, deliver-success}
 use Rattle.cores.specs.Cores.{core}
 use Rattle.cores.proofs.Cores.{core-sub}
 use Rattle.thresholds.specs.declared.Thresholds.{Thresholds}
@@ -119,28 +116,13 @@ report-plain n T ws buffer = go (checkOf n T ws) refl
 -- So whatever was lent: where the call succeeds, the bytes in front say records of which the group statement holds.
 pub reported : (n T : ℕ) (ws : List ℕ) (least : Thresholds) (lent : List ℕ) (answer : Outcome ℕ) (left : List ℕ) → answer ≡ reportOf n T ws least lent .answer → left ≡ reportOf n T ws least lent .buffer
     → Reported n T ws least answer left
-reported n T ws least lent answer left e f = record { groups = λ size g. judged size g (checkOf n T ws) refl }
+unfolding reportOf reportJudged
+reported n T ws least lent answer left e f = record { groups = shown }
   where
-    bytes : List ℕ
-    bytes = keptBytes n T ws least
-
-    refuses : {number offset size : ℕ} → answer ≡ success size → reportOf n T ws least lent ≡ record { answer = refused number offset; buffer = lent } → ⊥
-    refuses g r = refused-success (sym (e ∙ ap (λ (x : Delivered). x .answer) r) ∙ g)
-
-    fits : (size : ℕ) → answer ≡ success size → LentDay n T ws → inRange least ≡ true → length bytes ≤ length lent → GroupStatement n T ws (full n) least (reportRecords (take size left))
-    fits size g d r h =
-        let made = report-succeeds n T ws least lent d r h in
-        let s : size ≡ length bytes = success-same (sym g ∙ e ∙ ap (λ (x : Delivered). x .answer) made) in
-        let l : left ≡ bytes ++ drop (length bytes) lent = f ∙ ap (λ (x : Delivered). x .buffer) made in
-        let t : take size left ≡ bytes = rw l (take-at bytes (drop (length bytes) lent) size (sym s)) in
-        rw (t, groups-said least d) (groups-stated n T ws least d)
-
-    ranged : (size : ℕ) → answer ≡ success size → LentDay n T ws → (b : Bool) → inRange least ≡ b → GroupStatement n T ws (full n) least (reportRecords (take size left))
-    ranged size g d false r = absurd (refuses g (report-judges n T ws least lent d r))
-    ranged size g d true r = by-cases (decLt (length lent) (length bytes))
-        (λ h. absurd (refuses g (report-measures n T ws least lent d r h)))
-        (λ h. fits size g d r (omega arith))
-
-    judged : (size : ℕ) → answer ≡ success size → (o : Outcome (Unit {0})) → checkOf n T ws ≡ o → GroupStatement n T ws (full n) least (reportRecords (take size left))
-    judged size g (refused a b) c = absurd (refuses g (report-refused n T ws least lent a b c))
-    judged size g (success x) c = ranged size g (check-passed n T ws c) (inRange least) refl
+    shown : (size : ℕ) → answer ≡ success size → GroupStatement n T ws (full n) least (reportRecords (take size left))
+    shown size g =
+        let d = deliver-success (andThen (checkOf n T ws) (λ x. reportJudged n T ws least)) lent size (sym e ∙ g) in
+        let c = then-passed _ _ (d .1) in
+        let r = refuse-passed _ _ _ _ (c .2) in
+        let l = check-passed n T ws (c .1) in
+        rw (f, d .2, sym (success-same (r .1)), groups-said least l) (groups-stated n T ws least l)

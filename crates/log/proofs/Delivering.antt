@@ -1,17 +1,19 @@
 -- Laws of bytes that are laid over a buffer, and of an answer that is put into the buffer that is lent.
-use mathlib.Core.Path.{_≡_, sym, ap, _∙_}
-use mathlib.Core.Bool.{true}
+use mathlib.Core.Path.{_≡_, refl, sym, ap, _∙_}
+use mathlib.Core.Bool.{Bool, true, false}
 use mathlib.Core.List.{List, _++_, append-assoc}
 use Prim.Native.Nat.{ℕ, _+_, _≤_, _<_}
 use native.Mathlib.Nat.{zero-add}
+use native.Mathlib.Decide.{decLt}
 use native.Mathlib.Omega.{arith}
 use lib.ListN.{length, take, drop}
-use lib.Seq.{paste, take-length, take-paste, length-paste, drop-paste}
+use lib.Seq.{paste, take-length, take-at, take-paste, length-paste, drop-paste}
 use borrow.Author.Tests.{lt-ltb, le-ltb, le-leb, lt-leb}
 use Rattle.records.specs.Limits.{withinLimits, wordsFor}
 use Rattle.records.specs.Outcomes.{Outcome, refused, success, andThen}
+use Rattle.records.proofs.Outcomes.{refused-success, success-same}
 use Rattle.records.proofs.WithinLimits.{limits-of}
-use Rattle.log.specs.Buffers.{deliver, overwrite, place}
+use Rattle.log.specs.Buffers.{Delivered, deliver, overwrite, place}
 use Rattle.log.specs.Writing.{Writable}
 
 -- words enough for n and T within their limits
@@ -60,6 +62,12 @@ module _ {A : Type 0} (o : Outcome A) (further : A → Outcome (List ℕ)) (buff
   unfolding andThen
   deliver-passed a e = rw e
 
+-- what a refusal leaves
+pub leaves-refused : {o : Outcome (List ℕ)} {number offset : ℕ} (buffer : List ℕ) → o ≡ refused number offset
+    → (refused number offset ≡ deliver o buffer .answer) × (buffer ≡ deliver o buffer .buffer)
+unfolding deliver
+leaves-refused buffer e = (sym (ap (λ (o : Outcome (List ℕ)). deliver o buffer .answer) e), sym (ap (λ (o : Outcome (List ℕ)). deliver o buffer .buffer) e))
+
 -- a buffer that is too short for an answer, and one that holds it
 module _ (bytes buffer : List ℕ) where
   pub deliver-short : length buffer < length bytes → deliver (success bytes) buffer ≡ record { answer = refused 9 0; buffer = buffer }
@@ -69,3 +77,19 @@ module _ (bytes buffer : List ℕ) where
   pub deliver-fits : length bytes ≤ length buffer → deliver (success bytes) buffer ≡ record { answer = success (length bytes); buffer = bytes ++ drop (length bytes) buffer }
   unfolding deliver
   deliver-fits h = rw (deliver, le-ltb (length buffer) (length bytes) h)
+
+-- where a size was answered, there were bytes to deliver, and they are the first so many of the buffer
+pub deliver-success : (o : Outcome (List ℕ)) (buffer : List ℕ) (size : ℕ) → deliver o buffer .answer ≡ success size
+    → (bytes : List ℕ) × (o ≡ success bytes) × (take size (deliver o buffer .buffer) ≡ bytes)
+unfolding deliver
+deliver-success (refused number offset) buffer size e = absurd (refused-success e)
+deliver-success (success bytes) buffer size e = (bytes, refl, fits (decLt (length buffer) (length bytes)))
+  where
+    answer : {x : Delivered} → deliver (success bytes) buffer ≡ x → x .answer ≡ success size
+    answer g = sym (ap (λ (d : Delivered). d .answer) g) ∙ e
+
+    fits : Dec (length buffer < length bytes) → take size (deliver (success bytes) buffer .buffer) ≡ bytes
+    fits (yes h) = absurd (refused-success (answer (deliver-short bytes buffer h)))
+    fits (no h) =
+        let g = deliver-fits bytes buffer (omega arith) in
+        ap (λ (d : Delivered). take size (d .buffer)) g ∙ take-at bytes (drop (length bytes) buffer) size (success-same (answer g))

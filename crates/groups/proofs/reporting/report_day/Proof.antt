@@ -8,6 +8,7 @@ use borrow.Author.Needs.{needs}
 use borrow.Author.Tests.{not-true, not-false}
 use Rattle.records.specs.Outcomes.{Outcome, success}
 use Rattle.log.specs.Buffers.{deliver}
+use Rattle.log.proofs.Delivering.{leaves-refused}
 use Rattle.groups.proofs.ReportTheorems.{judged-range, judged-report}
 use Rattle.groups.proofs.reporting.report_day.Statement.{statement}
 use Rattle.groups.proofs.reporting.report_day.Tie as tie
@@ -16,11 +17,7 @@ in-range-requires : tie.Need-in-range-requires
 in-range-requires c κs = search needs
 
 returns : tie.Need-returns
-unfolding deliver
-returns c =
-    let a = c .before .before .before .before .args in
-    let e = judged-range (a .badges) (a .ticks) (a .words .now) (a .least) (sym (c .before .in-range .ensures) ∙ not-true _ (c .if1 .taken)) in
-    (sym (ap (λ (o : Outcome (List ℕ)). deliver o (a .buffer .now) .answer) e), sym (ap (λ (o : Outcome (List ℕ)). deliver o (a .buffer .now) .buffer) e))
+returns c = leaves-refused _ (judged-range _ _ _ _ (sym (c .before .in-range .ensures) ∙ not-true _ (c .if1 .taken)))
 
 slice-aggregate-encode-report : tie.Need-slice-aggregate-encode-report
 slice-aggregate-encode-report c = search needs
