@@ -89,8 +89,9 @@ void ward_core_numbers(const uint64_t *words, size_t words_len, size_t badges, s
 void ward_report(const uint64_t *words, size_t words_len, size_t badges, size_t ticks, size_t least_ticks, size_t least_order, size_t least_members,
                  uint8_t *out, size_t out_len, uint64_t answer[5]);
 
-/* The plan of the shift around a query, a set with bit u for badge u: cuts the day into so many parts with the greatest sum of scores. PH, badges,
- * ticks, parts, query in 8 bytes; for each part PT, score, first tick, last tick, members; ED and their number. Refused by 10, 8, 11, 13, 14, 9. */
+/* The plan of the shift around a query, a set with bit u for badge u: cuts the day into so many parts with the greatest sum of scores, and of such
+ * cuttings it is the one whose list of last ticks comes first, compared number by number. PH, badges, ticks, parts, query in 8 bytes; for each part PT,
+ * score, first tick, last tick, members; ED and their number. Refused by 10, 8, 11, 13, 14, 9. */
 void ward_plan(const uint64_t *words, size_t words_len, size_t badges, size_t ticks, uint64_t query, size_t parts, uint8_t *out, size_t out_len,
                uint64_t answer[5]);
 

@@ -120,7 +120,6 @@ pub(crate) fn plans(words: &[u64], day: Verdict, query: u64, parts: usize) -> bo
     let n = day.badges;
     let set = BadgeSet::from_word(query);
     let got = groups::plan(words, n, day.ticks, set, parts, &mut buffer);
-    let given: &[u8] = &buffer;
-    let wanted = best_plan(words, n, day.ticks, query, parts, given);
-    writes_groups(got, day, wanted.len) & holds(given, wanted)
+    let wanted = best_plan(words, n, day.ticks, query, parts);
+    writes_groups(got, day, wanted.len) & holds(&buffer, wanted)
 }

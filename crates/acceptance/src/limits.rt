@@ -56,7 +56,7 @@ pub(crate) fn order_63() -> Tally {
     let right = cases::plans(words, day, 1, 1);
     let plan: &[u8] =
         b"PH\x40\x60\x01\x01\x00\x00\x00\x00\x00\x00\x00PT\x3f\x00\x5f\xff\xff\xff\xff\xff\xff\xff\xffED\x01\x00\x00\x00";
-    with_bytes(t, right, best_plan(words, 64, 96, 1, 1, plan), plan)
+    with_bytes(t, right, best_plan(words, 64, 96, 1, 1), plan)
 }
 
 // A log that read and tidy refuse by a number at an offset, or accept where it is 0.

@@ -1,12 +1,10 @@
 -- The tables hold: every row, in the order of specs/Table, specs/Further, specs/Example and specs/Requests, by computation from the definitions.
 use mathlib.Core.Path.{refl}
-use mathlib.Core.List.{[], _∷_}
 use Rattle.cases.specs.Rows.{AllHold}
 use Rattle.cases.specs.Table.{starred}
 use Rattle.cases.specs.Further.{further}
 use Rattle.cases.specs.Example.{example}
 use Rattle.cases.specs.Requests.{requested}
-use Rattle.cases.proofs.Plans.{all-best, only-plan, refused-plan}
 use Rattle.cases.proofs.Tables.{none, _then_}
 use Rattle.cases.proofs.Computing.{computing}
 
@@ -28,21 +26,22 @@ starred-holds =
     then refl
     then refl
     -- query {2}, h 1
-    then all-best refl refl refl
-    then only-plan 1 (2 ∷ []) refl (all-best refl refl refl) refl
+    then refl
+    then refl
     -- h 2
-    then all-best refl refl refl
+    then refl
+    then refl
+    then refl
     -- h 3
-    then all-best refl refl refl
-    then only-plan 5 (0 ∷ 1 ∷ 2 ∷ []) refl (all-best refl refl refl) refl
+    then refl
+    then refl
     -- h 4
-    then refused-plan (λ es. refl)
+    then refl
     -- query {0}
-    then all-best refl refl refl
-    then only-plan 0 (2 ∷ []) refl (all-best refl refl refl) refl
+    then refl
     -- query {0,3}
-    then all-best refl refl refl
-    then only-plan 2 (0 ∷ 1 ∷ 2 ∷ []) refl (all-best refl refl refl) refl
+    then refl
+    then refl
     -- the three-badge day
     then refl
     then refl
@@ -98,10 +97,10 @@ further-holds =
     then refl
     then refl
     -- plan
-    then only-plan 0 (2 ∷ []) refl (all-best refl refl refl) refl
-    then refused-plan (λ es. refl)
-    then refused-plan (λ es. refl)
-    then refused-plan (λ es. refl)
+    then refl
+    then refl
+    then refl
+    then refl
     -- the listing
     then refl
     then refl
@@ -120,8 +119,11 @@ example-holds =
     then refl
     then refl
     then refl
-    then all-best refl refl refl
-    then only-plan 4 (0 ∷ 1 ∷ 3 ∷ []) refl (all-best refl refl refl) refl
+    then refl
+    then refl
+    then refl
+    then refl
+    then refl
     then none
 
 pub requested-holds : AllHold requested
@@ -149,6 +151,14 @@ requested-holds =
     then refl
     then refl
     -- tidy: how many records come out, and its order
+    then refl
+    then refl
+    then refl
+    then refl
+    then refl
+    -- the first of the best cuttings
+    then refl
+    then refl
     then refl
     then refl
     then refl

@@ -19,26 +19,26 @@ use Rattle.log.specs.Calls.{writeJudged, writeOf, tidyBefore9, tidyOf}
 use Rattle.cores.specs.Graphs.{degree}
 use Rattle.cores.specs.Cores.{strip, strips, core}
 use Rattle.cores.specs.Orders.{largest, coreNumber, contains, score}
-use Rattle.cuts.specs.Cuttings.{total}
 use Rattle.cuts.specs.Sums.{firstGreatest, sumWith, bestSum, endAfter, endsFrom, bestEnds}
 use Rattle.spans.specs.Spans.{isSpan, throughout, spanNeighbours}
 use Rattle.spans.specs.SpanCores.{coreOn, hasCore}
 use Rattle.spans.specs.Reports.{asLarge, same, isMaximal, isGroup, groupsOn, groupsFrom, groupsOf}
 use Rattle.thresholds.specs.Ranges.{inRange, areEnough}
 use Rattle.spans.specs.KeptGroups.{meets, kept}
-use Rattle.spans.specs.Plans.{scoreOn, membersOn, partOn, partsFrom, isQuery, isParts}
+use Rattle.spans.specs.Plans.{scoreOn, membersOn, partOn, partsFrom, partsOf, isQuery, isParts}
+use Rattle.spans.specs.PlanStatement.{sumOfOrders}
 use Rattle.spans.specs.Encoding.{encodeCore, encodeCores, reportBytes, planBytes}
 use Rattle.groups.specs.Calls.{coreNumberBytes, spanJudged, coreNumbersOf, reportJudged, reportOf, planJudged, planOf}
 use Rattle.text.specs.Decimal.{decimalIn, decimal}
 use Rattle.text.specs.Listing.{field, headLine, memberList, groupLine, refusalLine, reportLines, judgedLines, joined, listing}
 use Rattle.promises.specs.D1.{badges, d1Words}
+use Rattle.promises.specs.Ties.{tiesWords}
 use Rattle.cases.specs.RecordBytes.{BH, CT, ED, RH, GR, PH, PT}
 use Rattle.cases.specs.Rows.{Holds}
 use Rattle.cases.specs.Table.{sevens, d1Log, d1Variant, d1Report, changingLog, changingWords, emptyLog, emptyWords, equalBadges, starred}
 use Rattle.cases.specs.Further.{nestedLog, nestedWords, further}
 use Rattle.cases.specs.Example.{exampleLog, exampleWords, exampleTidy, example}
 use Rattle.cases.specs.Requests.{triple, couple, nobody, requested}
-use Rattle.cases.proofs.Cuttings.{inFront, cuttingsFrom, cuttings, withSum}
 
 -- sets and lists
 sets-computing : ℕ
@@ -52,7 +52,7 @@ log-computing = 0
 
 -- cores, cuttings, and the calls of the group part
 groups-computing : ℕ
-unfolding log-computing degree strip strips core largest coreNumber contains score total firstGreatest sumWith bestSum endAfter endsFrom bestEnds isSpan throughout spanNeighbours coreOn hasCore asLarge same isMaximal isGroup groupsOn groupsFrom groupsOf inRange areEnough meets kept scoreOn membersOn partOn partsFrom isQuery isParts encodeCore encodeCores reportBytes planBytes coreNumberBytes spanJudged coreNumbersOf reportJudged reportOf planJudged planOf
+unfolding log-computing degree strip strips core largest coreNumber contains score firstGreatest sumWith bestSum endAfter endsFrom bestEnds isSpan throughout spanNeighbours coreOn hasCore asLarge same isMaximal isGroup groupsOn groupsFrom groupsOf inRange areEnough meets kept scoreOn membersOn partOn partsFrom partsOf isQuery isParts sumOfOrders encodeCore encodeCores reportBytes planBytes coreNumberBytes spanJudged coreNumbersOf reportJudged reportOf planJudged planOf
 groups-computing = 0
 
 -- the listing
@@ -62,5 +62,5 @@ text-computing = 0
 
 -- the tables
 unfoldable pub computing : ℕ
-unfolding text-computing badges BH CT ED RH GR PH PT Holds sevens d1Log d1Words d1Variant d1Report changingLog changingWords emptyLog emptyWords equalBadges starred nestedLog nestedWords further exampleLog exampleWords exampleTidy example triple couple nobody requested inFront cuttingsFrom cuttings withSum
+unfolding text-computing badges tiesWords BH CT ED RH GR PH PT Holds sevens d1Log d1Words d1Variant d1Report changingLog changingWords emptyLog emptyWords equalBadges starred nestedLog nestedWords further exampleLog exampleWords exampleTidy example triple couple nobody requested
 computing = 0

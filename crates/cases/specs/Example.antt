@@ -5,7 +5,7 @@ use Rattle.records.specs.Outcomes.{success}
 use Rattle.thresholds.specs.Ranges.{leastOf, plain}
 use Rattle.promises.specs.D1.{badges}
 use Rattle.cases.specs.RecordBytes.{BH, CT, ED, RH, GR, PH, PT}
-use Rattle.cases.specs.Rows.{Row, read, tidy, core-numbers, report, plan, plan-ends, listing, length-of}
+use Rattle.cases.specs.Rows.{Row, read, tidy, core-numbers, report, plan, plan-sum, plan-ends, cut-sum, listing, length-of}
 use Rattle.cases.specs.Table.{sevens, accepted}
 
 -- five badges, four ticks, in arrival order: 2–0 in ticks 0 to 1, 0–1 in ticks 0 to 2, 1–2 in ticks 0 to 1 and, from the other side, in
@@ -36,7 +36,11 @@ example =
     ∷ report 5 4 exampleWords (leastOf 3 1 2) (sevens 36) (success 36) (RH 5 4 ++ GR 1 0 2 (badges (0 ∷ 1 ∷ 2 ∷ [])) ++ GR 1 1 3 (badges (3 ∷ 4 ∷ [])) ++ ED 2)
     ∷ report 5 4 exampleWords (leastOf 1 2 2) (sevens 23) (success 23) (RH 5 4 ++ GR 2 0 1 (badges (0 ∷ 1 ∷ 2 ∷ [])) ++ ED 1)
     ∷ listing exampleLog "badges 5 ticks 4 groups 3\norder 2 ticks 0 to 1 badges 0 1 2\norder 1 ticks 0 to 2 badges 0 1 2\norder 1 ticks 1 to 3 badges 3 4\n"
-    -- badge 1 in three parts: one plan has the greatest sum, 4
-    ∷ plan-ends 5 4 exampleWords (badges (1 ∷ [])) 3 4 ((0 ∷ 1 ∷ 3 ∷ []) ∷ [])
+    -- badge 1 in three parts
+    ∷ plan-sum 5 4 exampleWords (badges (1 ∷ [])) 3 4
     ∷ plan 5 4 exampleWords (badges (1 ∷ [])) 3 (sevens 58) (success 58) (PH 5 4 3 (badges (1 ∷ [])) ++ PT 2 0 0 (badges (0 ∷ 1 ∷ 2 ∷ [])) ++ PT 2 1 1 (badges (0 ∷ 1 ∷ 2 ∷ [])) ++ PT 0 2 3 (badges (0 ∷ 1 ∷ 2 ∷ 3 ∷ 4 ∷ [])) ++ ED 3)
+    -- and in two: a cut after tick 0 and one after tick 1 have the same sum
+    ∷ plan-ends 5 4 exampleWords (badges (1 ∷ [])) 2 (0 ∷ 3 ∷ [])
+    ∷ cut-sum 5 exampleWords (badges (1 ∷ [])) (0 ∷ 3 ∷ []) 2
+    ∷ cut-sum 5 exampleWords (badges (1 ∷ [])) (1 ∷ 3 ∷ []) 2
     ∷ []

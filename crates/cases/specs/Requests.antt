@@ -1,11 +1,13 @@
 -- Worked cases of the requests of document 02, request by request. What a row says is in Rows.
 use mathlib.Core.List.{List, [], _∷_, _++_}
 use Prim.Native.Nat.{ℕ}
+use lib.ListN.{replicate}
 use Rattle.records.specs.Outcomes.{refused, success}
 use Rattle.thresholds.specs.Ranges.{leastOf}
 use Rattle.promises.specs.D1.{badges, d1Words}
-use Rattle.cases.specs.RecordBytes.{BH, CT, ED, RH, GR}
-use Rattle.cases.specs.Rows.{Row, tidy, report, length-of}
+use Rattle.promises.specs.Ties.{tiesWords}
+use Rattle.cases.specs.RecordBytes.{BH, CT, ED, RH, GR, PH, PT}
+use Rattle.cases.specs.Rows.{Row, tidy, report, plan, plan-ends, cut-sum, length-of}
 use Rattle.cases.specs.Table.{sevens}
 
 -- reports of D1 that keep one of its two groups, "order 2, 0 to 1, {0,1,2}" and "order 1, 0 to 2, {2,3}", and none
@@ -52,4 +54,14 @@ requested =
     ∷ tidy (BH 2 3 ++ CT 0 1 0 2 ++ ED 2) (sevens 5) (sevens 15) (refused 6 10) (sevens 5) (sevens 15)
     ∷ tidy (BH 2 3 ++ CT 0 1 0 2 ++ ED 1) (sevens 5) (sevens 15) (refused 8 0) (sevens 5) (sevens 15)
     ∷ tidy (BH 2 3 ++ CT 0 1 0 2 ++ ED 1) (sevens 6) (sevens 15) (refused 9 0) (2 ∷ 1 ∷ 2 ∷ 1 ∷ 2 ∷ 1 ∷ []) (sevens 15)
+    -- "Three. .. For D1, query {2} and h 2 the ends are 0 and 2."
+    ∷ plan-ends 4 3 d1Words (badges (2 ∷ [])) 2 (0 ∷ 2 ∷ [])
+    ∷ plan 4 3 d1Words (badges (2 ∷ [])) 2 (sevens 45) (success 45) (PH 4 3 2 (badges (2 ∷ [])) ++ PT 2 0 0 (badges (0 ∷ 1 ∷ 2 ∷ [])) ++ PT 1 1 2 (badges (2 ∷ 3 ∷ [])) ++ ED 2)
+    -- where no badge met another, every cutting has the sum 0, and the first has all parts but the last of one tick
+    ∷ plan-ends 3 5 (replicate 15 0) (badges (0 ∷ [])) 3 (0 ∷ 1 ∷ 4 ∷ [])
+    -- "compared number by number", from the first on: 0, 3, 4 and 1, 2, 4 have the same sum, and so have 2, 3, 4
+    ∷ plan-ends 3 5 tiesWords (badges (0 ∷ [])) 3 (0 ∷ 3 ∷ 4 ∷ [])
+    ∷ cut-sum 3 tiesWords (badges (0 ∷ [])) (0 ∷ 3 ∷ 4 ∷ []) 3
+    ∷ cut-sum 3 tiesWords (badges (0 ∷ [])) (1 ∷ 2 ∷ 4 ∷ []) 3
+    ∷ cut-sum 3 tiesWords (badges (0 ∷ [])) (2 ∷ 3 ∷ 4 ∷ []) 3
     ∷ []

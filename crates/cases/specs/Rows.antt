@@ -1,6 +1,5 @@
 -- A table of worked cases: what a row says, and that every row of a table holds.
 use mathlib.Core.List.{List, List·Memᴰ}
-use mathlib.Core.Logic.{_↔_}
 use mathlib.Core.Path.{_≡_}
 use Prim.Native.Nat.{ℕ}
 use Prim.Native.String.{String}
@@ -9,16 +8,17 @@ use Rattle.records.specs.Outcomes.{Outcome}
 use Rattle.records.specs.Verdicts.{Values}
 use Rattle.days.specs.Calls.{readOf}
 use Rattle.log.specs.Calls.{tidyOf, writeOf}
-use Rattle.cuts.specs.Cuttings.{total, IsBest}
 use Rattle.thresholds.specs.declared.Thresholds.{Thresholds}
-use Rattle.spans.specs.Plans.{scoreOn}
-use Rattle.groups.specs.Calls.{coreNumbersOf, reportOf, Planned}
+use Rattle.spans.specs.Plans.{partsFrom, partsOf}
+use Rattle.spans.specs.PlanStatement.{sumOfOrders, partEnds}
+use Rattle.groups.specs.Calls.{coreNumbersOf, reportOf, planOf}
 use Rattle.sets.specs.Ascii.{ascii}
 use Rattle.text.specs.Listing.{listing as listed}
 
 -- A row has a call's arguments, what it answers, and what it leaves in each slice that was lent, in this order: `words` and `buffer` are lent,
--- `words′` and `buffer′` are left. `plan-ends` has the arguments of a plan, a sum and lists of part ends; `listing` has a log and the text that the
--- listing program writes; `length-of` has bytes and their number.
+-- `words′` and `buffer′` are left. `plan-sum` and `plan-ends` have the arguments of a plan, and the sum of its scores or its part ends; `cut-sum` has a
+-- list of part ends and the sum of scores of the parts that it cuts; `listing` has a log and the text that the listing program writes; `length-of`
+-- has bytes and their number.
 pub data Row : Type 0 where
   read : (log words : List ℕ) (answer : Outcome Values) (words′ : List ℕ) → Row
   tidy : (log words buffer : List ℕ) (answer : Outcome ℕ) (words′ buffer′ : List ℕ) → Row
@@ -26,21 +26,11 @@ pub data Row : Type 0 where
   core-numbers : (n T : ℕ) (words : List ℕ) (first last : ℕ) (buffer : List ℕ) (answer : Outcome ℕ) (buffer′ : List ℕ) → Row
   report : (n T : ℕ) (words : List ℕ) (least : Thresholds) (buffer : List ℕ) (answer : Outcome ℕ) (buffer′ : List ℕ) → Row
   plan : (n T : ℕ) (words : List ℕ) (query h : ℕ) (buffer : List ℕ) (answer : Outcome ℕ) (buffer′ : List ℕ) → Row
-  plan-ends : (n T : ℕ) (words : List ℕ) (query h sum : ℕ) (ends : List (List ℕ)) → Row
+  plan-sum : (n T : ℕ) (words : List ℕ) (query h sum : ℕ) → Row
+  plan-ends : (n T : ℕ) (words : List ℕ) (query h : ℕ) (ends : List ℕ) → Row
+  cut-sum : (n : ℕ) (words : List ℕ) (query : ℕ) (ends : List ℕ) (sum : ℕ) → Row
   listing : (log : List ℕ) (shown : String) → Row
   length-of : (bytes : List ℕ) (size : ℕ) → Row
-
--- The contract of `plan` allows this answer and this buffer, and no other.
-pub record OnlyPlan (n T : ℕ) (words : List ℕ) (query h : ℕ) (buffer : List ℕ) (answer : Outcome ℕ) (buffer′ : List ℕ) : Type 0 where
-  pub allowed : Planned n T words query h buffer answer buffer′
-  pub answers : (a : Outcome ℕ) (left : List ℕ) → Planned n T words query h buffer a left → a ≡ answer
-  pub leaves : (a : Outcome ℕ) (left : List ℕ) → Planned n T words query h buffer a left → left ≡ buffer′
-
--- The lists of part ends that the contract of `plan` allows are these, each with this sum of scores, and no other: where there is one, it is the
--- greatest sum over all cuttings of the day into h runs.
-pub record AllBestEnds (n T : ℕ) (words : List ℕ) (query h sum : ℕ) (ends : List (List ℕ)) : Type 0 where
-  pub exactly : (es : List ℕ) → IsBest (scoreOn n words query) T h es ↔ List·Memᴰ es ends
-  pub sums : (es : List ℕ) → List·Memᴰ es ends → total (scoreOn n words query) 0 es ≡ sum
 
 -- what a row says
 unfoldable pub Holds : Row → Type 0
@@ -49,8 +39,10 @@ Holds (tidy log words buffer answer words′ buffer′) = tidyOf log words buffe
 Holds (write n T words buffer answer buffer′) = writeOf n T words buffer ≡ record { answer = answer; buffer = buffer′ }
 Holds (core-numbers n T words first last buffer answer buffer′) = coreNumbersOf n T words first last buffer ≡ record { answer = answer; buffer = buffer′ }
 Holds (report n T words least buffer answer buffer′) = reportOf n T words least buffer ≡ record { answer = answer; buffer = buffer′ }
-Holds (plan n T words query h buffer answer buffer′) = OnlyPlan n T words query h buffer answer buffer′
-Holds (plan-ends n T words query h sum ends) = AllBestEnds n T words query h sum ends
+Holds (plan n T words query h buffer answer buffer′) = planOf n T words query h buffer ≡ record { answer = answer; buffer = buffer′ }
+Holds (plan-sum n T words query h sum) = sumOfOrders (partsOf n T words query h) ≡ sum
+Holds (plan-ends n T words query h ends) = partEnds (partsOf n T words query h) ≡ ends
+Holds (cut-sum n words query ends sum) = sumOfOrders (partsFrom n words query 0 ends) ≡ sum
 Holds (listing log shown) = listed log ≡ ascii shown
 Holds (length-of bytes size) = length bytes ≡ size
 

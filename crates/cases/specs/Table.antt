@@ -8,7 +8,7 @@ use Rattle.records.specs.Verdicts.{Values}
 use Rattle.thresholds.specs.Ranges.{plain}
 use Rattle.promises.specs.D1.{badges, d1Words}
 use Rattle.cases.specs.RecordBytes.{BH, CT, ED, RH, GR, PH, PT}
-use Rattle.cases.specs.Rows.{Row, read, tidy, write, core-numbers, report, plan, plan-ends, length-of}
+use Rattle.cases.specs.Rows.{Row, read, tidy, write, core-numbers, report, plan, plan-sum, cut-sum, length-of}
 
 -- lent memory of so many bytes or words, all 7
 unfoldable pub sevens : ℕ → List ℕ
@@ -70,20 +70,21 @@ starred =
     ∷ length-of d1Report 36
     ∷ report 4 3 d1Words plain (sevens 35) (refused 9 0) (sevens 35)
     -- "* Query {2}: sum 1 for h 1,"
-    ∷ plan-ends 4 3 d1Words (badges (2 ∷ [])) 1 1 ((2 ∷ []) ∷ [])
+    ∷ plan-sum 4 3 d1Words (badges (2 ∷ [])) 1 1
     ∷ plan 4 3 d1Words (badges (2 ∷ [])) 1 (sevens 32) (success 32) (PH 4 3 1 (badges (2 ∷ [])) ++ PT 1 0 2 (badges (2 ∷ 3 ∷ [])) ++ ED 1)
     -- "3 for h 2 (cut after tick 0 or tick 1),"
-    ∷ plan-ends 4 3 d1Words (badges (2 ∷ [])) 2 3 ((0 ∷ 2 ∷ []) ∷ (1 ∷ 2 ∷ []) ∷ [])
+    ∷ plan-sum 4 3 d1Words (badges (2 ∷ [])) 2 3
+    ∷ cut-sum 4 d1Words (badges (2 ∷ [])) (0 ∷ 2 ∷ []) 3
+    ∷ cut-sum 4 d1Words (badges (2 ∷ [])) (1 ∷ 2 ∷ []) 3
     -- "5 for h 3."
-    ∷ plan-ends 4 3 d1Words (badges (2 ∷ [])) 3 5 ((0 ∷ 1 ∷ 2 ∷ []) ∷ [])
+    ∷ plan-sum 4 3 d1Words (badges (2 ∷ [])) 3 5
     ∷ plan 4 3 d1Words (badges (2 ∷ [])) 3 (sevens 58) (success 58) (PH 4 3 3 (badges (2 ∷ [])) ++ PT 2 0 0 (badges (0 ∷ 1 ∷ 2 ∷ [])) ++ PT 2 1 1 (badges (0 ∷ 1 ∷ 2 ∷ [])) ++ PT 1 2 2 (badges (2 ∷ 3 ∷ [])) ++ ED 3)
     -- "h 4 gets 14."
     ∷ plan 4 3 d1Words (badges (2 ∷ [])) 4 (sevens 71) (refused 14 0) (sevens 71)
     -- "* Query {0}, h 1: score 0, all four badges."
-    ∷ plan-ends 4 3 d1Words (badges (0 ∷ [])) 1 0 ((2 ∷ []) ∷ [])
     ∷ plan 4 3 d1Words (badges (0 ∷ [])) 1 (sevens 32) (success 32) (PH 4 3 1 (badges (0 ∷ [])) ++ PT 0 0 2 (badges (0 ∷ 1 ∷ 2 ∷ 3 ∷ [])) ++ ED 1)
     -- "* Query {0,3}, h 3: sum 2."
-    ∷ plan-ends 4 3 d1Words (badges (0 ∷ 3 ∷ [])) 3 2 ((0 ∷ 1 ∷ 2 ∷ []) ∷ [])
+    ∷ plan-sum 4 3 d1Words (badges (0 ∷ 3 ∷ [])) 3 2
     ∷ plan 4 3 d1Words (badges (0 ∷ 3 ∷ [])) 3 (sevens 58) (success 58) (PH 4 3 3 (badges (0 ∷ 3 ∷ [])) ++ PT 1 0 0 (badges (0 ∷ 1 ∷ 2 ∷ 3 ∷ [])) ++ PT 1 1 1 (badges (0 ∷ 1 ∷ 2 ∷ 3 ∷ [])) ++ PT 0 2 2 (badges (0 ∷ 1 ∷ 2 ∷ 3 ∷ [])) ++ ED 3)
     -- "* n 3, T 2, 0–1 in tick 0, 0–2 in tick 1: groups of order 1 at 0 to 0 {0,1} and 1 to 1 {0,2}, none at 0 to 1."
     ∷ read changingLog (sevens 6) (accepted 3 2 2) changingWords

@@ -30,4 +30,4 @@ module _ (scores : List ℕ) (T h : ℕ) where
   -- the first h places have the ends
   pub ends-of : 1 ≤ h → h ≤ T → T ≤ 96 → take h (endsOf scores T h) ≡ bestEnds (tableScore scores) T h
   ends-of l m n =
-      rw (ends-some l m n) (take-at (bestEnds (tableScore scores) T h) (replicate (96 - h) 0) h (best-ends (tableScore scores) T h l m .cutting .count))
+      rw (ends-some l m n) (take-at (bestEnds (tableScore scores) T h) (replicate (96 - h) 0) h (best-ends (tableScore scores) T h l m .best .cutting .count))

@@ -164,12 +164,12 @@ put-next found ends i e n q l =
     rw (q, g) (set-at found 0 (replicate (96 - suc i) 0) e i n ∙ sym (append-snoc found e (replicate (96 - suc i) 0)))
 
 -- with no end, with one end more, and with the last one
-pub walked-none : (scores : List ℕ) (T h : ℕ) → 1 ≤ h → h ≤ T → Walked scores T h 0 0 (replicate 96 0)
+pub walked-none : (scores : List ℕ) (T h t : ℕ) → 1 ≤ h → h ≤ T → t ≡ 0 → Walked scores T h 0 t (replicate 96 0)
 unfolding bestEnds
-walked-none scores T zero l w = absurd (omega arith)
-walked-none scores T (suc c) l w =
+walked-none scores T zero t l w q = absurd (omega arith)
+walked-none scores T (suc c) t l w q =
     let e : suc c - 1 ≡ c = omega arith in
-    record { found = []; count = refl; fits = omega arith; held = refl; rest = rw e }
+    rw q (record { found = []; count = refl; fits = omega arith; held = refl; rest = rw e })
 
 module _ {scores : List ℕ} {T h i t : ℕ} {ends : List ℕ} (w : Walked scores T h i t ends) (l : h ≤ 96) where
   pub walked-more : (c e : ℕ) {sums : List ℕ} → Filled scores T (h - 1) sums → i < h - 1 → c ≡ h - i - 2

@@ -1,16 +1,17 @@
--- The ends that are found are those of a best cutting.
+-- The ends that are found are those of the first of the best cuttings.
 use mathlib.Core.Path.{_≡_, refl, sym, ap, _∙_}
 use mathlib.Core.Bool.{Bool, true, false}
-use mathlib.Core.List.{List}
+use mathlib.Core.List.{List, Lexᴰ·not-nil, Lexᴰ·cases-cons-cons}
 use mathlib.Core.Logic.{_⊎_, inl, inr}
 use Prim.Native.Nat.{ℕ, zero, suc, _+_, _≤_, _<_}
 use native.Mathlib.Nat.{le-refl, eq-or-lt-of-le}
 use native.Mathlib.Omega.{arith}
 use lib.Dec.{ltb}
 use borrow.Author.Tests.{ltb-true, ltb-false}
-use Rattle.cuts.specs.Cuttings.{IsBest, total}
+use Rattle.cuts.specs.Cuttings.{Cutting, total, ComesBefore, IsFirstBest}
 use Rattle.cuts.specs.Sums.{firstGreatest, sumWith, lastTick, laterEnds, bestSum, endAfter, endsFrom, bestEnds}
 use Rattle.cuts.proofs.Cuttings.{Cuts, one, more, cuts-fit, to-cuts, of-cuts}
+use Rattle.cuts.proofs.FirstCuttings.{first-only, first-same}
 
 -- one number more: it is taken where its value is greater, and else the one found before is kept
 pub greatest-take : (g : ℕ → ℕ) (t m : ℕ) → ltb (g (firstGreatest g t m)) (g (t + suc m)) ≡ true → firstGreatest g t (suc m) ≡ t + suc m
@@ -21,15 +22,16 @@ pub greatest-keep : (g : ℕ → ℕ) (t m : ℕ) → ltb (g (firstGreatest g t 
 unfolding firstGreatest
 greatest-keep g t m e = rw (firstGreatest, e)
 
--- r is one of the numbers t to t + m, and g is greatest at it
+-- r is one of the numbers t to t + m, g is greatest at it, and less at those before it
 pub record Greatest (g : ℕ → ℕ) (t m r : ℕ) : Type 0 where
   pub low : t ≤ r
   pub high : r ≤ t + m
   pub most : (e : ℕ) → t ≤ e → e ≤ t + m → g e ≤ g r
+  pub first : (e : ℕ) → t ≤ e → e < r → g e < g r
 
 pub is-greatest : (g : ℕ → ℕ) (t m : ℕ) → Greatest g t m (firstGreatest g t m)
 unfolding firstGreatest
-is-greatest g t zero = record { low = le-refl t; high = omega arith; most = λ e l h. let q : e ≡ t = omega arith in omega (arith, ap g q) }
+is-greatest g t zero = record { low = le-refl t; high = omega arith; most = λ e l h. let q : e ≡ t = omega arith in omega (arith, ap g q); first = λ e l h. absurd (omega arith) }
 is-greatest g t (suc m) = go (ltb (g (firstGreatest g t m)) (g (t + suc m))) refl (is-greatest g t m)
   where
     either : (e : ℕ) → e ≤ t + suc m → (e ≡ t + suc m) ⊎ (e ≤ t + m)
@@ -42,6 +44,7 @@ is-greatest g t (suc m) = go (ltb (g (firstGreatest g t m)) (g (t + suc m))) ref
           low = omega arith;
           high = le-refl (t + suc m);
           most = λ e l h. elim (either e h) [ inl q ↦ omega (arith, ap g q) | inr q ↦ omega (arith, ih .most e l q) ];
+          first = λ e l h. omega (arith, ih .most e l (omega arith));
         })
     go false x ih =
         let y = ltb-false (g (firstGreatest g t m)) (g (t + suc m)) x in
@@ -49,6 +52,7 @@ is-greatest g t (suc m) = go (ltb (g (firstGreatest g t m)) (g (t + suc m))) ref
           low = ih .low;
           high = omega (arith, ih .high);
           most = λ e l h. elim (either e h) [ inl q ↦ omega (arith, ap g q) | inr q ↦ ih .most e l q ];
+          first = ih .first;
         })
 
 -- two functions that agree on the numbers have the same first greatest
@@ -100,11 +104,32 @@ module _ (score : ℕ → ℕ → ℕ) (T : ℕ) where
   cuts-best (more {c} {t} {e} {es} l r) =
       omega (arith, cuts-best r, cuts-fit r, best-sum-suc c t, end-greatest c t .most e l (omega (arith, cuts-fit r)))
 
--- the ends that are found are those of a best cutting, whatever the score
-pub best-ends : (score : ℕ → ℕ → ℕ) (T h : ℕ) → 1 ≤ h → h ≤ T → IsBest score T h (bestEnds score T h)
+  -- no cuts that attain the greatest sum come before them: an end before the one found has a smaller sum, and after the same end the rest attains the
+  -- greatest sum of the rest
+  cuts-first : {c t : ℕ} {es : List ℕ} → Cuts T c t es → total score t es ≡ bestSum score T c t → ComesBefore es (endsFrom score T c t) → ⊥
+  unfolding endsFrom total bestSum sumWith
+  cuts-first (one {t} {e} l q) s b = elim (Lexᴰ·cases-cons-cons b) [ inl m ↦ omega arith | inr m ↦ Lexᴰ·not-nil (m .1) ]
+  cuts-first (more {c} {t} {e} {es} l r) s b =
+      elim (Lexᴰ·cases-cons-cons b) [
+        | inl m ↦ omega (arith, s, best-sum-suc c t, cuts-best r, end-greatest c t .first e l m)
+        | inr m ↦ cuts-first r (omega (arith, s, best-sum-suc c t, ap (λ (x : ℕ). sumWith score (bestSum score T c) t x) (m .0))) (rw (← m .0) at (m .1))
+      ]
+
+-- The ends that are found are those of the first of the best cuttings, whatever the score.
+pub best-ends : (score : ℕ → ℕ → ℕ) (T h : ℕ) → 1 ≤ h → h ≤ T → IsFirstBest score T h (bestEnds score T h)
 unfolding bestEnds
 best-ends score T zero l w = absurd (omega arith)
 best-ends score T (suc c) l w = record {
-  cutting = of-cuts (ends-cuts score T c 0 (omega arith));
-  greatest = λ es k. rw (ends-total score T c 0) (cuts-best score T (to-cuts k));
+  best = record { cutting = cutting; greatest = greatest };
+  first = λ es b. cuts-first score T (to-cuts (b .cutting)) (omega (arith, b .greatest (bestEnds score T (suc c)) cutting, greatest es (b .cutting), ends-total score T c 0));
 }
+  where
+    cutting : Cutting T (suc c) (bestEnds score T (suc c))
+    cutting = of-cuts (ends-cuts score T c 0 (omega arith))
+
+    greatest : (es : List ℕ) → Cutting T (suc c) es → total score 0 es ≤ total score 0 (bestEnds score T (suc c))
+    greatest es k = rw (ends-total score T c 0) (cuts-best score T (to-cuts k))
+
+-- Two score functions that agree on all runs of T ticks have the same ends found, since there is just one first of the best cuttings.
+pub ends-same : (f g : ℕ → ℕ → ℕ) (T h : ℕ) → ((a b : ℕ) → a ≤ b → b < T → f a b ≡ g a b) → 1 ≤ h → h ≤ T → bestEnds f T h ≡ bestEnds g T h
+ends-same f g T h same l m = first-only (first-same f g same (best-ends f T h l m)) (best-ends g T h l m)

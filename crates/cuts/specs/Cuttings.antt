@@ -1,7 +1,7 @@
--- The ticks 0 to T - 1 cut into runs, and the cuttings of greatest sum. The score of a run is any function of its first and last tick.
--- (Standard terms: a cutting is a segmentation, a run a segment.)
+-- The ticks 0 to T - 1 cut into runs, the cuttings of greatest sum, and the first of these. The score of a run is any function of its first and
+-- last tick. (Standard terms: a cutting is a segmentation, a run a segment.)
 use mathlib.Core.Path.{_≡_}
-use mathlib.Core.List.{List, [], _∷_}
+use mathlib.Core.List.{List, [], _∷_, Lexᴰ}
 use Prim.Native.Nat.{ℕ, suc, _+_, _≤_, _<_}
 use lib.ListN.{length, getD}
 
@@ -22,3 +22,13 @@ total score t (e ∷ es) = score t e + total score (suc e) es
 pub record IsBest (score : ℕ → ℕ → ℕ) (T h : ℕ) (ends : List ℕ) : Type 0 where
   pub cutting : Cutting T h ends
   pub greatest : (es : List ℕ) → Cutting T h es → total score 0 es ≤ total score 0 ends
+
+-- One list of numbers comes before another, compared number by number: at the first place where they differ, its number is the smaller.
+-- (Standard term: lexicographic order.)
+abbrev pub ComesBefore : List ℕ → List ℕ → Type 0
+ComesBefore xs ys = Lexᴰ _<_ xs ys
+
+-- the first of the best cuttings: a best cutting, and no other best cutting comes before it
+pub record IsFirstBest (score : ℕ → ℕ → ℕ) (T h : ℕ) (ends : List ℕ) : Type 0 where
+  pub best : IsBest score T h ends
+  pub first : (es : List ℕ) → IsBest score T h es → ComesBefore es ends → ⊥

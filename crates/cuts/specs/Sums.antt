@@ -1,5 +1,5 @@
--- How a best cutting is found: the greatest sums from each tick on, by the number of cuts that are left, and the ends that attain them.
--- (Standard term: dynamic programming over segmentations.)
+-- How the first of the best cuttings is found: the greatest sums from each tick on, by the number of cuts that are left, and the first ends that
+-- attain them. (Standard term: dynamic programming over segmentations.)
 use mathlib.Core.Bool.{true, false}
 use mathlib.Core.List.{List, [], _∷_, _++_}
 use Prim.Native.Nat.{ℕ, zero, suc, _+_, _-_, _*_}
@@ -44,7 +44,7 @@ endsFrom score T (suc c) t =
     let e : ℕ = endAfter score T c t in
     e ∷ endsFrom score T c (suc e)
 
--- the ends so found for the ticks 0 to T - 1 in h runs
+-- the ends so found for the ticks 0 to T - 1 in h runs: the first of the best cuttings, which is a law (best-ends)
 unfoldable pub bestEnds : (ℕ → ℕ → ℕ) → ℕ → ℕ → List ℕ
 bestEnds score T zero = []
 bestEnds score T (suc c) = endsFrom score T c 0
@@ -53,7 +53,7 @@ bestEnds score T (suc c) = endsFrom score T c 0
 unfoldable pub tableScore : List ℕ → ℕ → ℕ → ℕ
 tableScore scores first last = getD scores (first * 96 + last) 0
 
--- the ends of a best cutting in 96 places, with zeros after them; zeros alone where T is above 96, or h is 0 or above T
+-- the ends of the first of the best cuttings in 96 places, with zeros after them; zeros alone where T is above 96, or h is 0 or above T
 unfoldable pub endsOf : List ℕ → ℕ → ℕ → List ℕ
 endsOf scores T h =
     elim (leb 1 h and leb h T and leb T 96) [

@@ -1,7 +1,8 @@
 // Cutting the ticks of a day into runs, with the greatest sum of scores.
 //
 // `best_ends` fills a table of greatest sums, 96 columns wide: row c for c cuts, column t for first tick t. Then it walks from tick 0,
-// and ends each run at the first tick that attains the greatest sum. Scores are in such a table, too: row first tick, column last tick.
+// and ends each run at the first tick that attains the greatest sum: so the list of ends is the first of those that attain it. Scores are in such
+// a table, too: row first tick, column last tick.
 ghost use mathlib.Core.Path.{_≡_};
 ghost use mathlib.Core.List.{_++_};
 ghost use Prim.Native.Nat.{suc, _+_, _-_, _<_, _≤_};
@@ -72,7 +73,7 @@ fn fill_row(scores: &[u8; 9216], sums: &mut [u16; 9216], c: usize, ticks: usize)
     }
 }
 
-// The ends of a best cutting, from the rows for fewer cuts, with zeros after them.
+// The ends of the first of the best cuttings, from the rows for fewer cuts, with zeros after them.
 fn walk_ends(scores: &[u8; 9216], sums: &[u16; 9216], ticks: usize, parts: usize) -> [u8; 96]
     requires { ⌜ (1 ≤ parts) × (parts ≤ ticks) × (ticks ≤ 96) × Filled (now scores) ticks (parts - 1) (now sums) ⌝ }
     ensures { λ r. ⌜ r ≡ bestEnds (tableScore (now (scores .entry))) ticks parts ++ replicate (96 - parts) 0 ⌝ }
@@ -89,8 +90,8 @@ fn walk_ends(scores: &[u8; 9216], sums: &[u16; 9216], ticks: usize, parts: usize
     ends
 }
 
-// The last ticks of the runs of a best cutting of the ticks 0 to ticks - 1 into parts runs, with zeros after them. Zeros alone where there
-// is no such cutting or ticks is above 96.
+// The last ticks of the runs of the first of the best cuttings of the ticks 0 to ticks - 1 into parts runs, with zeros after them. Zeros alone
+// where there is no such cutting or ticks is above 96.
 pub fn best_ends(scores: &[u8; 9216], ticks: usize, parts: usize) -> [u8; 96]
     ensures { λ r. ⌜ r ≡ endsOf (now (scores .entry)) ticks parts ⌝ }
 {

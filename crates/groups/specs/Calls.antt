@@ -1,7 +1,6 @@
 -- What the public calls answer and leave in the slices that were lent, for every input, by the order of documents 01 and 02.
 use mathlib.Core.List.{List}
-use mathlib.Core.Path.{_≡_}
-use Prim.Native.Nat.{ℕ, _≤_}
+use Prim.Native.Nat.{ℕ}
 use Rattle.sets.specs.Bools.{isnt}
 use Rattle.sets.specs.Sets.{full}
 use Rattle.sets.specs.Tables.{tabulate}
@@ -9,13 +8,12 @@ use Rattle.records.specs.Outcomes.{Outcome, success, refuseIf, andThen}
 use Rattle.days.specs.Calls.{checkOf}
 use Rattle.log.specs.Buffers.{Delivered, deliver}
 use Rattle.cores.specs.Orders.{coreNumber}
-use Rattle.cuts.specs.Cuttings.{IsBest}
 use Rattle.thresholds.specs.declared.Thresholds.{Thresholds}
 use Rattle.spans.specs.Spans.{isSpan, spanNeighbours}
 use Rattle.spans.specs.Reports.{groupsOf}
 use Rattle.thresholds.specs.Ranges.{inRange}
 use Rattle.spans.specs.KeptGroups.{kept}
-use Rattle.spans.specs.Plans.{scoreOn, partsFrom, isQuery, isParts}
+use Rattle.spans.specs.Plans.{partsOf, isQuery, isParts}
 use Rattle.spans.specs.Encoding.{reportBytes, planBytes}
 
 -- "core numbers (day words and a span to n bytes)": the core number of each of the n badges on the span, among all n badges
@@ -39,19 +37,10 @@ reportJudged n T ws least = refuseIf (isnt (inRange least)) 17 0 (success (repor
 unfoldable pub reportOf : ℕ → ℕ → List ℕ → Thresholds → List ℕ → Delivered
 reportOf n T ws least buffer = deliver (andThen (checkOf n T ws) (λ x. reportJudged n T ws least)) buffer
 
--- The query and the number of parts are judged, and then the bytes are worked out, of the parts that a list of ends cuts. "13: the query has a
--- badge of n or more. 14: h is 0 or above T."
-unfoldable pub planJudged : ℕ → ℕ → List ℕ → ℕ → ℕ → List ℕ → Outcome (List ℕ)
-planJudged n T ws query h ends = refuseIf (isnt (isQuery n query)) 13 0 (refuseIf (isnt (isParts T h)) 14 0 (success (planBytes n T h query (partsFrom n ws query 0 ends))))
+-- The query and the number of parts are judged, and then the bytes are worked out. "13: the query has a badge of n or more. 14: h is 0 or above T."
+unfoldable pub planJudged : ℕ → ℕ → List ℕ → ℕ → ℕ → Outcome (List ℕ)
+planJudged n T ws query h = refuseIf (isnt (isQuery n query)) 13 0 (refuseIf (isnt (isParts T h)) 14 0 (success (planBytes n T h query (partsOf n T ws query h))))
 
--- plan, given the list of part ends. "Calls on words: 10, 8, 11 first, then .. plan 13, 14, 9."
-unfoldable pub planOf : ℕ → ℕ → List ℕ → ℕ → ℕ → List ℕ → List ℕ → Delivered
-planOf n T ws query h ends buffer = deliver (andThen (checkOf n T ws) (λ x. planJudged n T ws query h ends)) buffer
-
--- What plan leaves. "Among plans of equal sum any may be given": the list of ends is free, as long as it cuts the ticks into h runs and no
--- cutting has a greater sum of scores. All else is fixed by it.
-pub record Planned (n T : ℕ) (ws : List ℕ) (query h : ℕ) (lent : List ℕ) (answer : Outcome ℕ) (left : List ℕ) : Type 0 where
-  pub ends : List ℕ
-  pub best : 1 ≤ h → h ≤ T → IsBest (scoreOn n ws query) T h ends
-  pub answers : answer ≡ planOf n T ws query h ends lent .answer
-  pub leaves : left ≡ planOf n T ws query h ends lent .buffer
+-- plan. "Calls on words: 10, 8, 11 first, then .. plan 13, 14, 9."
+unfoldable pub planOf : ℕ → ℕ → List ℕ → ℕ → ℕ → List ℕ → Delivered
+planOf n T ws query h buffer = deliver (andThen (checkOf n T ws) (λ x. planJudged n T ws query h)) buffer

@@ -5,14 +5,14 @@ ghost use Prim.Native.Nat.{_+_, _*_, _≤_, _<_};
 ghost use lib.ListN.{length};
 ghost use Rattle.sets.specs.Ascii.{ascii};
 ghost use Rattle.sets.specs.Members.{members};
-ghost use Rattle.records.specs.Outcomes.{success};
-ghost use Rattle.days.specs.Calls.{checkOf};
+ghost use Rattle.days.specs.Days.{LentDay};
+ghost use Rattle.log.specs.Buffers.{deliver};
 ghost use Rattle.spans.specs.Spans.{SpanOfDay};
 ghost use Rattle.spans.specs.Plans.{partOn};
 ghost use Rattle.groups.specs.Refusals.{writtenOutcome};
 ghost use Rattle.groups.specs.Appending.{AppendsCores};
 ghost use Rattle.groups.specs.Scoring.{shownMembers, PlanParts, EncodesPlan};
-ghost use Rattle.groups.specs.Calls.{Planned};
+ghost use Rattle.groups.specs.Calls.{planJudged, planOf};
 ghost use Rattle.groups.specs.ShiftPlans.{PlanShown};
 use crate::answer::Written;
 use crate::answer::delivered;
@@ -110,8 +110,9 @@ fn plan_day(
     parts: usize,
     buffer: &mut [u8],
 ) -> Written
-    requires { ⌜ checkOf badges ticks (now words) ≡ success tt ⌝ }
-    ensures { λ r. ⌜ Planned badges ticks (now (words .entry)) (members query) parts (now (buffer .entry)) (writtenOutcome r) (now (buffer .exit)) ⌝ }
+    requires { ⌜ LentDay badges ticks (now words) ⌝ }
+    ensures answer { λ r. ⌜ writtenOutcome r ≡ deliver (planJudged badges ticks (now (words .entry)) (members query) parts) (now (buffer .entry)) .answer ⌝ }
+    ensures leaves { λ _. ⌜ now (buffer .exit) ≡ deliver (planJudged badges ticks (now (words .entry)) (members query) parts) (now (buffer .entry)) .buffer ⌝ }
 {
     if !query.is_subset(BadgeSet::full(badges)) {
         return Written::Refused(Refusal::ForeignQuery);
@@ -131,9 +132,9 @@ fn plan_day(
     delivered(log::deliver(&bytes[..19 + 13 * parts], buffer))
 }
 
-// Plans a shift around a query: cuts the day into parts runs with the greatest sum of scores, puts the plan into the buffer that is lent, and
-// answers the number of bytes. Refused by 10, 8, 11, 13, 14 and 9, in that order; a refused call changes no byte, and bytes after the answer
-// are never touched.
+// Plans a shift around a query: cuts the day into parts runs with the greatest sum of scores, and of such cuttings the one whose list of last ticks
+// comes first, number by number; puts the plan into the buffer that is lent, and answers the number of bytes. Refused by 10, 8, 11, 13, 14 and 9,
+// in that order; a refused call changes no byte, and bytes after the answer are never touched.
 pub fn plan(
     words: &[u64],
     badges: usize,
@@ -142,7 +143,8 @@ pub fn plan(
     parts: usize,
     buffer: &mut [u8],
 ) -> Written
-    ensures plan { λ r. ⌜ Planned badges ticks (now (words .entry)) (members query) parts (now (buffer .entry)) (writtenOutcome r) (now (buffer .exit)) ⌝ }
+    ensures answer { λ r. ⌜ writtenOutcome r ≡ planOf badges ticks (now (words .entry)) (members query) parts (now (buffer .entry)) .answer ⌝ }
+    ensures leaves { λ _. ⌜ now (buffer .exit) ≡ planOf badges ticks (now (words .entry)) (members query) parts (now (buffer .entry)) .buffer ⌝ }
     ensures shown { λ r. ⌜ PlanShown badges ticks (now (words .entry)) (members query) parts (writtenOutcome r) (now (buffer .exit)) ⌝ }
 {
     match check_words(words, badges, ticks) {

@@ -14,10 +14,13 @@ pub mod WriteSubstitutes
 -- core numbers; and words after the day, for the report and the plan
 pub mod NumberTheorems
 pub mod WordsAfter
+-- what the promise of the plan comes to
+pub mod PlanPromise
 -- substitutes for core numbers, the report and the plan
 pub mod NumberSubstitutes
 pub mod ReportSubstitutes
 pub mod ThresholdSubstitutes
 pub mod PlanSubstitutes
+pub mod PlanOrders
 -- the number that no refusal has
 pub mod UnusedNumber

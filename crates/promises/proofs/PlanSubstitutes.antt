@@ -2,41 +2,32 @@
 -- the call keeps (PlanStatement in spans, ShiftPlans in groups).
 use mathlib.Core.Path.{_≡_, refl, sym, ap, _∙_}
 use mathlib.Core.List.{List, [], _∷_, _++_, append-assoc, List·Memᴰ·head, List·Memᴰ·tail}
-use Prim.Native.Nat.{ℕ, suc, _+_, _-_, _*_, _≤_, _<_}
+use Prim.Native.Nat.{ℕ, suc, _+_, _-_, _≤_, _<_}
 use native.Mathlib.Omega.{arith}
-use lib.ListN.{length, getD, take, drop, replicate, length-append, length-replicate}
+use lib.ListN.{length, getD, take, drop, replicate, length-replicate}
 use lib.Seq.{take-at}
 use Rattle.sets.specs.Ascii.{ascii}
 use Rattle.sets.specs.Sets.{In, full, size}
 use Rattle.sets.specs.Bytes.{littleEndian}
 use Rattle.sets.proofs.Sets.{none-sub, is-sub-of}
-use Rattle.sets.proofs.Bytes.{length-little-endian}
 use Rattle.records.specs.declared.record.Record.the-variants.{End}
 use Rattle.records.specs.Records.{encode}
 use Rattle.records.specs.Outcomes.{success}
-use Rattle.records.proofs.Records.{length-encode}
 use Rattle.days.specs.Days.{LentDay}
 use Rattle.days.proofs.Scan.{day-of}
 use Rattle.log.specs.Buffers.{Delivered}
-use Rattle.cuts.specs.Sums.{bestEnds}
-use Rattle.cuts.proofs.Sums.{best-ends}
 use Rattle.spans.specs.Spans.{SpanOfDay}
 use Rattle.spans.specs.Contacts.{fellows}
 use Rattle.spans.specs.SpanCores.{SpanCore, Mem}
-use Rattle.spans.specs.Plans.{scoreOn, partsFrom}
+use Rattle.spans.specs.Plans.{scoreOn, partsOf}
 use Rattle.spans.specs.Encoding.{encodeCores, planBytes, planRecords}
 use Rattle.spans.specs.PlanStatement.{Runs, none, run, sumOfOrders, PlanStatement, PlanAsked}
-use Rattle.spans.proofs.Encoding.{encode-cores-length}
 use Rattle.spans.proofs.Decoding.{last-four}
 use Rattle.spans.proofs.PlanParts.{order-le, parts-stated}
 use Rattle.groups.specs.ShiftPlans.{PlansShift, PlansShifts}
 use Rattle.promises.specs.D1.{d1Words}
+use Rattle.promises.proofs.PlanPromise.{sums-same, plan-length, plan-kept}
 use Rattle.promises.proofs.SmallDays.{computing, d1-lent}
-
--- The statement leaves no choice of the sum: two lists of which it holds have the same.
-pub sums-same : {n T : ℕ} {ws : List ℕ} {base query h : ℕ} (xs ys : List SpanCore) → PlanStatement n T ws base query h xs → PlanStatement n T ws base query h ys
-    → sumOfOrders xs ≡ sumOfOrders ys
-sums-same xs ys x y = omega (arith, x .greatest ys (y .cutting), y .greatest xs (x .cutting))
 
 -- n 3, T 4: 0–1 in ticks 0 and 1, 0–2 in ticks 2 and 3
 abbrev turning : List ℕ
@@ -54,16 +45,9 @@ turning-asked : PlanAsked 3 4 turning 1 2
 unfolding computing
 turning-asked = record { lent = turning-lent; named = is-sub-of 1 (full 3) refl; some = omega arith; enough = omega arith }
 
-turning-ends : bestEnds (scoreOn 3 turning 1) 4 2 ≡ 1 ∷ 3 ∷ []
-unfolding computing
-turning-ends = refl
-
-turning-sum : sumOfOrders (partsFrom 3 turning 1 0 (1 ∷ 3 ∷ [])) ≡ 2
+turning-sum : sumOfOrders (partsOf 3 4 turning 1 2) ≡ 2
 unfolding computing
 turning-sum = refl
-
-turning-stated : PlanStatement 3 4 turning (full 3) 1 2 (partsFrom 3 turning 1 0 (1 ∷ 3 ∷ []))
-turning-stated = rw turning-ends at (parts-stated turning-asked (bestEnds (scoreOn 3 turning 1) 4 2) (best-ends (scoreOn 3 turning 1) 4 2 (omega arith) (omega arith)))
 
 -- the scores of the runs 0 to 0 and 1 to 3
 turning-first : scoreOn 3 turning 1 0 0 ≡ 1
@@ -80,23 +64,6 @@ turning-order : (ps : List SpanCore) → PlanStatement 3 4 turning (full 3) 1 2 
 turning-order ps s p i first last e f m w =
     rw (e, f) at (order-le 1 (turning-span (p .first) (p .last) (omega arith) (omega arith)) (s .cutting .within p i) (s .cutting .holds p i) (s .cutting .least p i))
 
--- h runs are h parts
-runs-length : {T h t : ℕ} {ps : List SpanCore} → Runs T h t ps → length ps ≡ h
-runs-length none = refl
-runs-length (run l r) = omega (arith, runs-length r)
-
--- so a plan's length is that of h parts
-plan-length : (n T h query : ℕ) (ps : List SpanCore) → length ps ≡ h → length (planBytes n T h query ps) ≡ 19 + 13 * h
-unfolding planBytes
-plan-length n T h query ps e = omega (
-  arith,
-  length-append (ascii "PH" ++ (n ∷ T ∷ h ∷ littleEndian 8 query)) (encodeCores (ascii "PT") ps ++ encode (End h)),
-  length-append (encodeCores (ascii "PT") ps) (encode (End h)),
-  length-little-endian 8 query,
-  encode-cores-length (ascii "PT") refl ps,
-  length-encode (End h),
-)
-
 -- A careless cut: after tick 0, which has the best score, and then the rest in one part, with whatever scores and members.
 pub careless-cut : (p q : SpanCore) → p .first ≡ 0 → p .last ≡ 0 → q .first ≡ 1 → q .last ≡ 3 → PlanStatement 3 4 turning (full 3) 1 2 (p ∷ q ∷ []) → ⊥
 unfolding sumOfOrders
@@ -107,7 +74,7 @@ careless-cut p q a b c d s = omega (
   turning-first,
   turning-rest,
   turning-sum,
-  sums-same _ _ turning-stated s,
+  sums-same _ _ (parts-stated turning-asked) s,
 )
 
 -- the first of some runs, with those after it; and none
@@ -140,21 +107,9 @@ pub careless-call : (call : ℕ → ℕ → List ℕ → ℕ → ℕ → List �
     → firstEnd (planRecords (take size (call n T ws query h buffer .buffer))) ≡ 0)
     → PlansShifts call → ⊥
 careless-call call e p =
-    careless-stated (shift .parts) (shift .stated)
-    (ap firstEnd (sym (ap (λ (x : Delivered). planRecords (take (length bytes) (x .buffer))) succeeds ∙ ap planRecords (take-at bytes (drop (length bytes) lent) (length bytes) refl) ∙ shift .said))
-    ∙ e 3 4 turning 1 2 lent (length bytes) turning-asked (omega arith) (ap (λ (x : Delivered). x .answer) succeeds))
-  where
-    lent : List ℕ
-    lent = replicate 45 0
-
-    shift : PlansShift 3 4 turning 1 2 lent (call 3 4 turning 1 2 lent)
-    shift = p 3 4 turning 1 2 lent turning-asked
-
-    bytes : List ℕ
-    bytes = planBytes 3 4 2 1 (shift .parts)
-
-    succeeds : call 3 4 turning 1 2 lent ≡ record { answer = success (length bytes); buffer = bytes ++ drop (length bytes) lent }
-    succeeds = shift .succeeds (omega (arith, plan-length 3 4 2 1 (shift .parts) (runs-length (shift .stated .cutting .runs)), length-replicate {A = ℕ} 45 0))
+    let lent : List ℕ = replicate 45 0 in
+    let k = plan-kept call p lent turning-asked (omega (arith, length-replicate {A = ℕ} 45 0)) in
+    careless-stated _ (k .2) (e 3 4 turning 1 2 lent (k .0) turning-asked (omega arith) (k .1))
 
 -- Members that are not the core: D1 around badge 2 in one part, of score 1. No set with a member that has no fellow member can be shown,
 pub members-not-the-core : (s u : ℕ) → In s u → size (fellows 4 d1Words 0 2 s u) ≡ 0
@@ -206,7 +161,7 @@ module _ (count : ℕ) (call : ℕ → ℕ → List ℕ → ℕ → ℕ → List
       bytes = planBytes 4 3 h 0 (shift .parts)
 
       succeeds : call 4 3 d1Words 0 h lent ≡ record { answer = success (length bytes); buffer = bytes ++ drop (length bytes) lent }
-      succeeds = shift .succeeds (omega (arith, plan-length 4 3 h 0 (shift .parts) (runs-length (shift .stated .cutting .runs)), long))
+      succeeds = shift .succeeds (omega (arith, plan-length (shift .parts) (shift .stated), long))
 
   pub plan-count-fixed : ⊥
   unfolding littleEndian

@@ -24,7 +24,7 @@ use Rattle.spans.specs.Reports.{asLarge, same, isMaximal, isGroup, groupsOn, gr
 use Rattle.thresholds.specs.Ranges.{plain, inRange, areEnough}
 use Rattle.spans.specs.KeptGroups.{meets, kept}
 use Rattle.spans.specs.GroupStatement.{ReportAsked}
-use Rattle.spans.specs.Plans.{scoreOn, partOn, partsFrom}
+use Rattle.spans.specs.Plans.{scoreOn, partOn, partsFrom, partsOf}
 use Rattle.spans.specs.PlanStatement.{sumOfOrders}
 use Rattle.promises.specs.D1.{badges, d1Words}
 use Rattle.groups.specs.Calls.{coreNumberBytes, spanJudged, coreNumbersOf}
@@ -35,7 +35,7 @@ still = replicate 12 0
 
 -- all that is computed with
 unfoldable pub computing : ℕ
-unfolding badges d1Words still _and_ _or_ isnt all bit intersection setOf full filterIn filter sizeIn size tabulate withinLimits refuseIf andThen neighbours adjacent isTick isDay deliver checkOf degree strip strips core largest coreNumber isSpan throughout spanNeighbours coreNumberBytes spanJudged coreNumbersOf concatBelow keepIf coreOn hasCore asLarge same isMaximal isGroup groupsOn groupsFrom groupsOf inRange areEnough meets kept isSub contains score scoreOn partOn partsFrom fellows firstGreatest sumWith bestSum endAfter endsFrom bestEnds sumOfOrders
+unfolding badges d1Words still _and_ _or_ isnt all bit intersection setOf full filterIn filter sizeIn size tabulate withinLimits refuseIf andThen neighbours adjacent isTick isDay deliver checkOf degree strip strips core largest coreNumber isSpan throughout spanNeighbours coreNumberBytes spanJudged coreNumbersOf concatBelow keepIf coreOn hasCore asLarge same isMaximal isGroup groupsOn groupsFrom groupsOf inRange areEnough meets kept isSub contains score scoreOn partOn partsFrom partsOf fellows firstGreatest sumWith bestSum endAfter endsFrom bestEnds sumOfOrders
 computing = 0
 
 -- both are lent days

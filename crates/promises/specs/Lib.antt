@@ -3,5 +3,6 @@ pub mod Reading
 pub mod Tidying
 pub mod WrittenDays
 pub mod CoreNumbers
--- the day on which they are tried
+-- the days on which they and the plan are tried
 pub mod D1
+pub mod Ties

@@ -1,4 +1,5 @@
-// Plans, by trying every cutting. A cutting is a set of ticks: a run ends with each tick that it has, and with the last one.
+// Plans, by trying every cutting, in the order of the lists of last ticks, compared number by number. A cutting is a set of ticks: a run ends with
+// each tick that it has, and with the last one.
 ghost use Prim.Native.Nat.{_≤_};
 use crate::bits::has;
 use crate::bytes::Bytes;
@@ -6,7 +7,6 @@ use crate::bytes::PH;
 use crate::bytes::PT;
 use crate::peeling::highest;
 use crate::peeling::rows;
-use check::same;
 use std::num::wrapping_add_usize;
 
 // A plan up to some tick: its bytes, the tick with which the next part begins, how many parts there are, and the sum of their scores. No sum
@@ -31,6 +31,12 @@ fn with_part(plan: Plan, words: &[u64], n: usize, query: u64, last: usize) -> Pl
     }
 }
 
+// Whether a cutting has tick t. Cuttings are numbered from 0 to 63, by which of the first six ticks they have not, tick 0 first: so of two with as
+// many ticks the one whose list of ticks comes first has the smaller number.
+fn has_tick(cutting: u64, t: usize) -> bool {
+    t < 6 && !has(cutting, 5 - t)
+}
+
 // The plan of a cutting, without its end. Its header says some number of parts.
 fn plan_of(words: &[u64], n: usize, ticks: usize, query: u64, parts: usize, cutting: u64) -> Plan {
     let mut plan = Plan {
@@ -40,7 +46,7 @@ fn plan_of(words: &[u64], n: usize, ticks: usize, query: u64, parts: usize, cutt
         sum: 0,
     };
     for t in 0..ticks {
-        if has(cutting, t) | (t + 1 == ticks) {
+        if has_tick(cutting, t) | (t + 1 == ticks) {
             let longer = with_part(plan, words, n, query, t);
             plan = longer;
         }
@@ -48,19 +54,15 @@ fn plan_of(words: &[u64], n: usize, ticks: usize, query: u64, parts: usize, cutt
     plan
 }
 
-// The better of two plans, if the second, which gets its end, has so many parts: the one with the greater sum. Of equal sums it is the second
-// if that is what a buffer holds.
-fn better(best: Plan, plan: Plan, parts: usize, given: &[u8]) -> Plan
+// The better of two plans, if the second, which gets its end, has so many parts: the one with the greater sum, and of equal sums the first.
+fn better(best: Plan, plan: Plan, parts: usize) -> Plan
     requires { ⌜ best .bytes .len ≤ 4096 ⌝ }
     ensures { λ r. ⌜ r .bytes .len ≤ 4096 ⌝ }
 {
-    let start = plan.bytes;
-    let whole = start.with_end(parts);
-    let bytes = whole.bytes;
-    let chosen = (best.sum == plan.sum) & same(&bytes, given);
-    if (plan.parts == parts) & (chosen | (best.sum < plan.sum)) {
+    if (plan.parts == parts) & ((best.parts < parts) | (best.sum < plan.sum)) {
+        let bytes = plan.bytes;
         return Plan {
-            bytes: whole,
+            bytes: bytes.with_end(parts),
             next: plan.next,
             parts,
             sum: plan.sum,
@@ -69,16 +71,8 @@ fn better(best: Plan, plan: Plan, parts: usize, given: &[u8]) -> Plan
     best
 }
 
-// A plan of so many parts with the greatest sum, for at most seven ticks: every set of the first six is tried. Any such plan may be given, so
-// that it is the one that a buffer holds, if that is one.
-pub fn best_plan(
-    words: &[u64],
-    n: usize,
-    ticks: usize,
-    query: u64,
-    parts: usize,
-    given: &[u8],
-) -> Bytes
+// The plan of so many parts with the greatest sum, for at most seven ticks: every set of the first six is tried. Of equal sums it is the first.
+pub fn best_plan(words: &[u64], n: usize, ticks: usize, query: u64, parts: usize) -> Bytes
     ensures { λ r. ⌜ r .len ≤ 4096 ⌝ }
 {
     let mut best = Plan {
@@ -89,7 +83,7 @@ pub fn best_plan(
     };
     for cutting in 0..64u64 {
         let plan = plan_of(words, n, ticks, query, parts, cutting);
-        let next = better(best, plan, parts, given);
+        let next = better(best, plan, parts);
         best = next;
     }
     best.bytes

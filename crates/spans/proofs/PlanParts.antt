@@ -1,6 +1,6 @@
--- The plan statement holds of the parts that a best list of ends cuts.
+-- The plan statement holds of a plan's parts.
 use mathlib.Core.Path.{_≡_, refl, sym, ap, _∙_}
-use mathlib.Core.List.{List, [], _∷_, map, List·Memᴰ·head, List·Memᴰ·tail, List·Memᴰ·cases-cons, List·Memᴰ·not-nil}
+use mathlib.Core.List.{List, [], _∷_, List·Memᴰ·head, List·Memᴰ·tail, List·Memᴰ·cases-cons, List·Memᴰ·not-nil}
 use mathlib.Core.Logic.{⊎-elim}
 use Prim.Native.Nat.{ℕ, zero, suc, _+_, _^_, _≤_, _<_, zero-le}
 use native.Mathlib.Nat.{le-refl}
@@ -14,12 +14,14 @@ use Rattle.cores.proofs.Degrees.{LeastDegree}
 use Rattle.cores.specs.Cores.{core}
 use Rattle.cores.proofs.Cores.{core-sub, core-zero}
 use Rattle.cores.proofs.Orders.{member-pos, contains-of, score-best, shown-contain, shown-least}
-use Rattle.cuts.specs.Cuttings.{total, IsBest}
+use Rattle.cuts.specs.Cuttings.{Cutting, total, IsBest, IsFirstBest}
+use Rattle.cuts.specs.Sums.{bestEnds}
 use Rattle.cuts.proofs.Cuttings.{Cuts, one, more, to-cuts, of-cuts}
+use Rattle.cuts.proofs.Sums.{best-ends}
 use Rattle.spans.specs.Spans.{SpanOfDay, spanNeighbours}
 use Rattle.spans.specs.SpanCores.{SpanCore, Mem, coreOn}
-use Rattle.spans.specs.Plans.{scoreOn, membersOn, partOn, partsFrom}
-use Rattle.spans.specs.PlanStatement.{LeastOn, Runs, none, run, sumOfOrders, PlanStatement, PlanAsked}
+use Rattle.spans.specs.Plans.{scoreOn, membersOn, partOn, partsFrom, partsOf}
+use Rattle.spans.specs.PlanStatement.{LeastOn, Runs, none, run, CuttingWithSets, sumOfOrders, partEnds, PlanStatement, PlanAsked}
 use Rattle.spans.proofs.OrderSets.{fellows-degree}
 
 -- the members shown at a score are the core of that order: that of order 0 is all n badges
@@ -91,17 +93,14 @@ runs-none none e = (refl, refl)
 runs-none (run l r) e = absurd (omega arith)
 
 -- the last ticks of c + 1 runs have c cuts
-abbrev lasts : List SpanCore → List ℕ
-lasts ps = map (λ (p : SpanCore). p .last) ps
-
-runs-cuts : {T h t : ℕ} {ps : List SpanCore} → Runs T h t ps → (c : ℕ) → h ≡ suc c → Cuts T c t (lasts ps)
+runs-cuts : {T h t : ℕ} {ps : List SpanCore} → Runs T h t ps → (c : ℕ) → h ≡ suc c → Cuts T c t (partEnds ps)
 runs-cuts none c e = absurd (omega arith)
 runs-cuts (run l r) zero e = let x = runs-none r (omega arith) in rw (x .1) (one l (x .0))
 runs-cuts (run l r) (suc c) e = more l (runs-cuts r c (omega arith))
 
 -- the sum of orders that are at most the scores of their runs is at most that of the scores
 sum-le : (f : ℕ → ℕ → ℕ) {T h t : ℕ} {ps : List SpanCore} → Runs T h t ps → ((p : SpanCore) → Mem p ps → p .order ≤ f (p .first) (p .last))
-    → sumOfOrders ps ≤ total f t (lasts ps)
+    → sumOfOrders ps ≤ total f t (partEnds ps)
 unfolding sumOfOrders total
 sum-le f none k = zero-le
 sum-le f (run {p = p} {ps = ps} l r) k = omega (arith, k p (List·Memᴰ·head refl), sum-le f r (λ q i. k q (List·Memᴰ·tail i)))
@@ -109,7 +108,7 @@ sum-le f (run {p = p} {ps = ps} l r) k = omega (arith, k p (List·Memᴰ·head r
 -- the parts that a list of ends cuts: as many as the ends, each the part of its run, with members that fit a set; their orders' sum is that of
 -- the scores; those of a list with c cuts are c + 1 runs
 module _ (n : ℕ) (ws : List ℕ) (query : ℕ) where
-  pub parts-length : (t : ℕ) (ends : List ℕ) → length (partsFrom n ws query t ends) ≡ length ends
+  parts-length : (t : ℕ) (ends : List ℕ) → length (partsFrom n ws query t ends) ≡ length ends
   unfolding partsFrom
   parts-length t [] = refl
   parts-length t (e ∷ es) = ap suc (parts-length (suc e) es)
@@ -119,7 +118,7 @@ module _ (n : ℕ) (ws : List ℕ) (query : ℕ) where
   parts-are t [] p i = absurd (List·Memᴰ·not-nil i)
   parts-are t (e ∷ es) p i = ⊎-elim (λ q. rw q) (parts-are (suc e) es p) (List·Memᴰ·cases-cons i)
 
-  pub parts-small : (t : ℕ) (ends : List ℕ) → n ≤ capacity → (p : SpanCore) → Mem p (partsFrom n ws query t ends) → p .members < 2 ^ capacity
+  parts-small : (t : ℕ) (ends : List ℕ) → n ≤ capacity → (p : SpanCore) → Mem p (partsFrom n ws query t ends) → p .members < 2 ^ capacity
   unfolding partOn
   parts-small t ends w p i =
       rw (parts-are t ends p i)
@@ -135,34 +134,75 @@ module _ (n : ℕ) (ws : List ℕ) (query : ℕ) where
   parts-runs {T} (one {t} {e} l q) = let z : Runs T 0 (suc e) [] = rw q none in run {p = partOn n ws query t e} l z
   parts-runs (more {c} {t} {e} l r) = run {p = partOn n ws query t e} l (parts-runs r)
 
--- The plan statement holds of the parts that a best list of ends cuts.
-pub parts-stated : {n T : ℕ} {ws : List ℕ} {query h : ℕ} → PlanAsked n T ws query h → (ends : List ℕ) → IsBest (scoreOn n ws query) T h ends
-    → PlanStatement n T ws (full n) query h (partsFrom n ws query 0 ends)
-parts-stated {n} {T} {ws} {query} {h} a ends b = go h refl
-  where
-    span : {first last : ℕ} → (first ≤ last) × (last < T) → SpanOfDay n T ws first last
-    span x = record { lent = a .lent; rising = x .0; inside = x .1 }
+  parts-ends : (t : ℕ) (ends : List ℕ) → partEnds (partsFrom n ws query t ends) ≡ ends
+  unfolding partsFrom partOn
+  parts-ends t [] = refl
+  parts-ends t (e ∷ es) = ap (λ (x : List ℕ). e ∷ x) (parts-ends (suc e) es)
 
-    go : (k : ℕ) → h ≡ k → PlanStatement n T ws (full n) query h (partsFrom n ws query 0 ends)
-    go zero e = absurd (omega (arith, a .some))
-    go (suc c) e = rw e (record {
-      cutting = record {
-        runs = runs;
-        within = λ p i. chosen p i .within;
-        some = λ p i. chosen p i .some;
-        holds = λ p i. chosen p i .holds;
-        least = λ p i. chosen p i .least;
-      };
-      greatest = λ others x. omega (
-        arith,
-        parts-sum n ws query 0 ends,
-        sum-le (scoreOn n ws query) (x .runs) (λ p i. order-le query (span (runs-span (x .runs) p i)) (x .within p i) (x .holds p i) (x .least p i)),
-        b .greatest (lasts others) (rw e (of-cuts (runs-cuts (x .runs) c refl))),
-      );
-    })
+-- The plan statement holds of a plan's parts.
+module _ {n T : ℕ} {ws : List ℕ} {query h : ℕ} (a : PlanAsked n T ws query h) where
+  -- its ends are the first of the best cuttings
+  ends-first : IsFirstBest (scoreOn n ws query) T h (bestEnds (scoreOn n ws query) T h)
+  ends-first = best-ends (scoreOn n ws query) T h (a .some) (a .enough)
+
+  span : {first last : ℕ} → (first ≤ last) × (last < T) → SpanOfDay n T ws first last
+  span x = record { lent = a .lent; rising = x .0; inside = x .1 }
+
+  -- its runs, and what is chosen for each
+  plan-runs : Runs T h 0 (partsOf n T ws query h)
+  unfolding partsOf
+  plan-runs = go h refl
+    where
+      go : (k : ℕ) → h ≡ k → Runs T h 0 (partsFrom n ws query 0 (bestEnds (scoreOn n ws query) T h))
+      go zero e = absurd (omega (arith, a .some))
+      go (suc c) e = rw e (parts-runs n ws query (to-cuts (rw e at (ends-first .best .cutting))))
+
+  plan-chosen : (p : SpanCore) → Mem p (partsOf n T ws query h) → Chosen n ws query p
+  unfolding partsOf
+  plan-chosen p i = rw (parts-are n ws query 0 (bestEnds (scoreOn n ws query) T h) p i) (part-chosen query (span (runs-span plan-runs p i)) (a .named))
+
+  plan-sum : sumOfOrders (partsOf n T ws query h) ≡ total (scoreOn n ws query) 0 (bestEnds (scoreOn n ws query) T h)
+  unfolding partsOf
+  plan-sum = parts-sum n ws query 0 (bestEnds (scoreOn n ws query) T h)
+
+  pub plan-ends : partEnds (partsOf n T ws query h) ≡ bestEnds (scoreOn n ws query) T h
+  unfolding partsOf
+  plan-ends = parts-ends n ws query 0 (bestEnds (scoreOn n ws query) T h)
+
+  -- any other cutting with sets: its ends cut the ticks, and its sum is no more than that of the scores of its runs
+  module _ (others : List SpanCore) (x : CuttingWithSets n T ws (full n) query h others) where
+    other-cutting : Cutting T h (partEnds others)
+    other-cutting = go h refl
       where
-        runs : Runs T (suc c) 0 (partsFrom n ws query 0 ends)
-        runs = parts-runs n ws query (to-cuts (rw e at (b .cutting)))
+        go : (k : ℕ) → h ≡ k → Cutting T h (partEnds others)
+        go zero e = absurd (omega (arith, a .some))
+        go (suc c) e = rw e (of-cuts (runs-cuts (x .runs) c e))
 
-        chosen : (p : SpanCore) → Mem p (partsFrom n ws query 0 ends) → Chosen n ws query p
-        chosen p i = rw (parts-are n ws query 0 ends p i) (part-chosen query (span (runs-span runs p i)) (a .named))
+    other-sum : sumOfOrders others ≤ total (scoreOn n ws query) 0 (partEnds others)
+    other-sum = sum-le (scoreOn n ws query) (x .runs) (λ p i. order-le query (span (runs-span (x .runs) p i)) (x .within p i) (x .holds p i) (x .least p i))
+
+    -- so it is a best cutting where its sum is the plan's
+    other-best : sumOfOrders others ≡ sumOfOrders (partsOf n T ws query h) → IsBest (scoreOn n ws query) T h (partEnds others)
+    other-best e = record { cutting = other-cutting; greatest = λ es c. omega (arith, ends-first .best .greatest es c, other-sum, plan-sum) }
+
+  -- there are h parts, with members that fit a set
+  pub plan-length : length (partsOf n T ws query h) ≡ h
+  unfolding partsOf
+  plan-length = parts-length n ws query 0 (bestEnds (scoreOn n ws query) T h) ∙ ends-first .best .cutting .count
+
+  pub plan-small : (p : SpanCore) → Mem p (partsOf n T ws query h) → p .members < 2 ^ capacity
+  unfolding partsOf
+  plan-small p i = parts-small n ws query 0 (bestEnds (scoreOn n ws query) T h) (limits-of (a .lent .limits) .few) p i
+
+  pub parts-stated : PlanStatement n T ws (full n) query h (partsOf n T ws query h)
+  parts-stated = record {
+    cutting = record {
+      runs = plan-runs;
+      within = λ p i. plan-chosen p i .within;
+      some = λ p i. plan-chosen p i .some;
+      holds = λ p i. plan-chosen p i .holds;
+      least = λ p i. plan-chosen p i .least;
+    };
+    greatest = λ others x. omega (arith, plan-sum, other-sum others x, ends-first .best .greatest (partEnds others) (other-cutting others x));
+    first = λ others x e. rw plan-ends (ends-first .first (partEnds others) (other-best others x e));
+  }

@@ -1,10 +1,11 @@
--- Demand 3, second half: the plan statement, over any list of parts, and which plans may be asked for. It speaks of days, ticks, runs, badge sets,
--- least degrees and sums alone.
-use mathlib.Core.List.{List, [], _∷_}
+-- Demand 3, second half, with request Three: the plan statement, over any list of parts, and which plans may be asked for. It speaks of days, ticks,
+-- runs, badge sets, least degrees, sums and the order of lists alone.
+use mathlib.Core.List.{List, [], _∷_, map}
 use mathlib.Core.Path.{_≡_}
 use Prim.Native.Nat.{ℕ, suc, _+_, _≤_, _<_}
 use Rattle.sets.specs.Sets.{In, Sub, size, full}
 use Rattle.days.specs.Days.{LentDay}
+use Rattle.cuts.specs.Cuttings.{ComesBefore}
 use Rattle.spans.specs.Contacts.{fellows}
 use Rattle.spans.specs.SpanCores.{SpanCore, Mem}
 
@@ -30,12 +31,18 @@ unfoldable pub sumOfOrders : List SpanCore → ℕ
 sumOfOrders [] = 0
 sumOfOrders (p ∷ ps) = p .order + sumOfOrders ps
 
+-- the list of part ends: "part ends" are last ticks
+abbrev pub partEnds : List SpanCore → List ℕ
+partEnds parts = map (λ (p : SpanCore). p .last) parts
+
 -- "our plan cuts the day into h runs; each score is the least degree, on its run, of the set of members shown, which holds the query; and
 -- every cutting of the day into h runs, with any non-empty set holding the query in each, has a sum of least degrees no larger than the sum
--- of our scores"
+-- of our scores"; and "the plan shall be the one whose list of part ends comes first, compared number by number, among all plans of greatest sum"
 pub record PlanStatement (n T : ℕ) (ws : List ℕ) (base query h : ℕ) (parts : List SpanCore) : Type 0 where
   pub cutting : CuttingWithSets n T ws base query h parts
   pub greatest : (others : List SpanCore) → CuttingWithSets n T ws base query h others → sumOfOrders others ≤ sumOfOrders parts
+  pub first : (others : List SpanCore) → CuttingWithSets n T ws base query h others → sumOfOrders others ≡ sumOfOrders parts
+      → ComesBefore (partEnds others) (partEnds parts) → ⊥
 
 -- a lent day, "every h from 1 to the number of ticks and every query naming only the day's badges"
 pub record PlanAsked (n T : ℕ) (ws : List ℕ) (query h : ℕ) : Type 0 where

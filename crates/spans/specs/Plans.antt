@@ -6,6 +6,7 @@ use lib.Dec.{leb}
 use Rattle.sets.specs.Bools.{_and_}
 use Rattle.sets.specs.Sets.{isSub, full}
 use Rattle.cores.specs.Orders.{score}
+use Rattle.cuts.specs.Sums.{bestEnds}
 use Rattle.spans.specs.Spans.{spanNeighbours}
 use Rattle.spans.specs.SpanCores.{SpanCore, coreOn}
 
@@ -26,6 +27,11 @@ partOn n ws query first last =
 unfoldable pub partsFrom : ℕ → List ℕ → ℕ → ℕ → List ℕ → List SpanCore
 partsFrom n ws query t [] = []
 partsFrom n ws query t (e ∷ es) = partOn n ws query t e ∷ partsFrom n ws query (suc e) es
+
+-- The parts of a plan: "the one whose list of part ends comes first, compared number by number, among all plans of greatest sum". That `bestEnds`
+-- are the first of the best cuttings is a law of cuts (best-ends).
+unfoldable pub partsOf : ℕ → ℕ → List ℕ → ℕ → ℕ → List SpanCore
+partsOf n T ws query h = partsFrom n ws query 0 (bestEnds (scoreOn n ws query) T h)
 
 -- the query names only the day's badges
 unfoldable pub isQuery : ℕ → ℕ → Bool

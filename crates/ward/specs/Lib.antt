@@ -1,3 +1,2 @@
 -- The calls for C: what a reader has to believe.
 pub mod Answers
-pub mod PlanAnswers

@@ -6,10 +6,10 @@ ghost use mathlib.Core.Path.{_≡_};
 ghost use Rattle.days.specs.Calls.{readOf};
 ghost use Rattle.log.specs.Calls.{tidyOf, writeOf};
 ghost use Rattle.thresholds.specs.Ranges.{leastOf};
-ghost use Rattle.groups.specs.Calls.{coreNumbersOf, reportOf};
+ghost use Rattle.groups.specs.Calls.{coreNumbersOf, reportOf, planOf};
 ghost use Rattle.groups.specs.GroupReports.{Reported};
+ghost use Rattle.groups.specs.ShiftPlans.{PlanShown};
 ghost use Rattle.ward.specs.Answers.{readAnswer, writtenAnswer};
-ghost use Rattle.ward.specs.PlanAnswers.{PlanAnswered};
 use answers::group_answer;
 use answers::log_answer;
 use answers::read_answer;
@@ -107,7 +107,9 @@ pub extern "C" fn ward_plan(
     out: &mut [u8],
     answer: &mut [u64; 5],
 )
-    ensures plan { λ _. ⌜ PlanAnswered badges ticks (now (words .entry)) query parts (now (out .entry)) (now (answer .exit)) (now (out .exit)) ⌝ }
+    ensures answer { λ _. ⌜ now (answer .exit) ≡ writtenAnswer (planOf badges ticks (now (words .entry)) query parts (now (out .entry)) .answer) ⌝ }
+    ensures leaves { λ _. ⌜ now (out .exit) ≡ planOf badges ticks (now (words .entry)) query parts (now (out .entry)) .buffer ⌝ }
+    ensures shown { λ _. ⌜ PlanShown badges ticks (now (words .entry)) query parts (planOf badges ticks (now (words .entry)) query parts (now (out .entry)) .answer) (now (out .exit)) ⌝ }
 {
     let set = BadgeSet::from_word(query);
     let written = groups::plan(words, badges, ticks, set, parts, out);

@@ -188,7 +188,8 @@ pub fn report(words: &[u64], badges: usize, ticks: usize, thresholds: Thresholds
     written(answer)
 }
 
-/// Puts the plan of a shift around a query, a set with bit u for badge u, into a buffer, and gives the number of bytes.
+/// Puts the plan of a shift around a query, a set with bit u for badge u, into a buffer, and gives the number of bytes. Of the cuttings with the greatest
+/// sum of scores it is the one whose list of last ticks comes first, compared number by number.
 ///
 /// ```
 /// let words = [0b10, 0b01];
@@ -197,6 +198,11 @@ pub fn report(words: &[u64], badges: usize, ticks: usize, thresholds: Thresholds
 /// assert_eq!(&plan[..13], b"PH\x02\x01\x01\x01\x00\x00\x00\x00\x00\x00\x00"); // one part, around badge 0
 /// assert_eq!(&plan[13..26], b"PT\x01\x00\x00\x03\x00\x00\x00\x00\x00\x00\x00"); // score 1, tick 0 to 0, both badges
 /// assert_eq!(size, 32);
+///
+/// // together in all of three ticks: a cut after tick 0 and one after tick 1 have the same sum, and the first is taken
+/// ward::plan(&[0b10, 0b01, 0b10, 0b01, 0b10, 0b01], 2, 3, 0b01, 2, &mut plan)?;
+/// assert_eq!(plan[13..18], *b"PT\x01\x00\x00"); // ticks 0 to 0
+/// assert_eq!(plan[26..31], *b"PT\x01\x01\x02"); // ticks 1 to 2
 ///
 /// let refused = ward::plan(&words, 2, 1, 0b100, 1, &mut plan).unwrap_err();
 /// assert_eq!(refused.refusal, ward::Refusal::ForeignQuery);

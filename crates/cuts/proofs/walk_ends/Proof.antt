@@ -17,7 +17,7 @@ sub-i-end : tie.Need-sub-i-end Inv-loop μ-loop
 sub-i-end c = search needs
 
 loop-holds : tie.Need-loop-holds Inv-loop μ-loop
-loop-holds c = (omega arith, walked-none _ _ _ (c .pre .0) (c .pre .1))
+loop-holds c = (omega arith, walked-none _ _ _ _ (c .pre .0) (c .pre .1) (omega arith))
 
 sub-c : tie.Need-sub-c Inv-loop μ-loop
 sub-c c = search needs

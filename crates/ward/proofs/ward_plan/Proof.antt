@@ -1,6 +1,7 @@
--- ward_plan meets its contract: the outcome is plan's, of the query as a set.
+-- ward_plan meets its contract: it leaves what plan leaves, and its answer is plan's, of the query as a set.
+use mathlib.Core.Path.{ap, _∙_}
 use borrow.Author.Needs.{needs}
-use Rattle.groups.specs.Refusals.{writtenOutcome}
+use Rattle.ward.specs.Answers.{writtenAnswer}
 use Rattle.ward.proofs.ward_plan.Statement.{statement}
 use Rattle.ward.proofs.ward_plan.Tie as tie
 
@@ -18,9 +19,9 @@ same-length c = search needs
 
 returns : tie.Need-returns
 returns c =
-    let p = c .before .before .before .plan in
     let q = c .before .before .before .before .before .from-word .ensures in
-    record { outcome = writtenOutcome (p .result); planned = rw q at (p .ensures .0); shown = rw q at (p .ensures .1); says = c .group-answer .ensures }
+    let p = rw q at (c .before .before .before .plan .ensures) in
+    (c .group-answer .ensures ∙ ap writtenAnswer (p .0), (p .1 .0, rw (p .0) at (p .1 .1)))
 
 pub ward-plan-spec : {M : Type 1} → statement M
 ward-plan-spec =

@@ -102,7 +102,7 @@ fn compare_words(random: &mut Random, words: &[u64], n: usize, ticks: usize) {
     let room = near(random, n.min(64));
     _ = day.core_numbers(first, last, room);
     let (query, parts) = (random_query(random, n), random_parts(random, ticks));
-    let room = near(random, day.plan_size(query, parts).unwrap_or(40));
+    let room = near(random, 19 + 13 * parts.min(96));
     _ = day.plan(query, parts, room);
 }
 

@@ -1,19 +1,16 @@
 //! The largest days, of 64 badges and 96 ticks, whose answers a rule gives; and days without contacts.
 
 use crate::model;
-use crate::plans::sum;
 use crate::support::days::{core_with_one_away, day_by, one_away};
 use crate::support::handed::Handed;
 use crate::support::lent::Lent;
 
-/// The records of a plan.
-fn parts(plan: &[u8]) -> Vec<(usize, usize, usize, u64)> {
-    let members = |part: &[u8]| u64::from_le_bytes(part[5..13].try_into().expect("eight bytes"));
-    let record = |part: &[u8]| (part[2] as usize, part[3] as usize, part[4] as usize, members(part));
-    plan[13..plan.len() - 6].chunks(13).map(record).collect()
+/// The spans of the first cutting of all: all parts but the last have one tick.
+fn first_cutting(ticks: usize, h: usize) -> impl Iterator<Item = (usize, usize)> {
+    (0..h).map(move |i| (i, if i + 1 == h { ticks - 1 } else { i }))
 }
 
-/// One group of order 63, and every part of every plan around all badges has order 63.
+/// One group of order 63, and around all badges every cutting has the greatest sum: so the plan is the first of all.
 #[test]
 fn all_in_contact() {
     let words = day_by(64, 96, |_, _, _| true).words();
@@ -22,15 +19,14 @@ fn all_in_contact() {
         assert_eq!(day.report(23), Ok(model::report_bytes(64, ticks, &[(63, 0, ticks - 1, u64::MAX)])));
         assert_eq!(day.report(22), Err((9, 0)));
         for h in (1..=ticks).step_by(19) {
-            let plan = day.plan(u64::MAX, h, 1300).expect("a plan");
-            assert_eq!(sum(&plan), 63 * h);
-            assert!(parts(&plan).iter().all(|part| (part.0, part.3) == (63, u64::MAX)));
+            let parts: Vec<_> = first_cutting(ticks, h).map(|(first, last)| (63, first, last, u64::MAX)).collect();
+            assert_eq!(day.plan(u64::MAX, h, 1300), Ok(model::plan_bytes(64, ticks, u64::MAX, &parts)));
         }
     }
 }
 
 /// One badge away in each tick: a group on each span of at most 62 ticks, 97·62 - (1 + .. + 62) = 4,061 in all, since every longer span has a smaller
-/// order. In the best plan one part is as long as can be, and all others have one tick and order 62.
+/// order. In a cutting of greatest sum one part is as long as can be, and all others have one tick and order 62: in the first it is the last one.
 #[test]
 fn one_badge_away_in_each_tick() {
     let day = Handed::new(&one_away().words(), 64, 96);
@@ -43,9 +39,9 @@ fn one_badge_away_in_each_tick() {
     assert_eq!(day.report(52802), Err((9, 0)));
 
     for h in (1..=96).step_by(19) {
-        let plan = day.plan(0, h, 1300).expect("a plan");
-        assert_eq!(sum(&plan), 62 * (h - 1) + if h < 35 { 0 } else { h - 34 });
-        assert!(parts(&plan).iter().all(|part| *part == core_with_one_away(part.1, part.2)));
+        let parts: Vec<_> = first_cutting(96, h).map(|(first, last)| core_with_one_away(first, last)).collect();
+        assert_eq!(parts.iter().map(|part| part.0).sum::<usize>(), 62 * (h - 1) + if h < 35 { 0 } else { h - 34 });
+        assert_eq!(day.plan(0, h, 1300), Ok(model::plan_bytes(64, 96, 0, &parts)));
     }
 }
 

@@ -1,7 +1,10 @@
-//! The plan: D1, whose bytes and sums are written by hand.
+//! The plan: D1, whose bytes, sums and ends are written by hand; and days on which several cuttings have the greatest sum.
 
+use crate::model::Cores;
 use crate::support::d1::{d1, turned};
+use crate::support::days::random_day;
 use crate::support::handed::Handed;
+use crate::support::random::Random;
 
 /// One part around {0}: score 0, and all four badges.
 const D1: &[u8; 32] = b"PH\x04\x03\x01\x01\x00\x00\x00\x00\x00\x00\x00\
@@ -13,9 +16,25 @@ const D1_OF_TWO_TICKS: &[u8; 32] = b"PH\x04\x02\x01\x01\x00\x00\x00\x00\x00\x00\
     PT\x02\x00\x01\x07\x00\x00\x00\x00\x00\x00\x00\
     ED\x01\x00\x00\x00";
 
+/// Two parts around {2}, and the ends 0 and 2, as document 02 has it: score 2 and {0,1,2}, score 1 and {2,3}.
+const D1_IN_TWO_PARTS: &[u8; 45] = b"PH\x04\x03\x02\x04\x00\x00\x00\x00\x00\x00\x00\
+    PT\x02\x00\x00\x07\x00\x00\x00\x00\x00\x00\x00\
+    PT\x01\x01\x02\x0c\x00\x00\x00\x00\x00\x00\x00\
+    ED\x02\x00\x00\x00";
+
+/// The records of a plan's parts.
+fn parts(plan: &[u8]) -> impl Iterator<Item = &[u8]> {
+    plan[13..plan.len() - 6].chunks(13)
+}
+
 /// The sum of a plan's scores.
-pub fn sum(plan: &[u8]) -> usize {
-    plan[13..plan.len() - 6].chunks(13).map(|part| part[2] as usize).sum()
+fn sum(plan: &[u8]) -> usize {
+    parts(plan).map(|part| part[2] as usize).sum()
+}
+
+/// A plan's ends, the last ticks of its parts.
+fn ends(plan: &[u8]) -> Vec<usize> {
+    parts(plan).map(|part| part[4] as usize).collect()
 }
 
 /// A buffer of every length up to 80.
@@ -59,13 +78,46 @@ const SUMS: [[usize; 3]; 16] = [
     [0, 1, 2],
 ];
 
+/// Their ends: in two parts the cuts after tick 0 and after tick 1 have the same sum around every query, so that it is the one after tick 0.
+const ENDS: [&[usize]; 3] = [&[2], &[0, 2], &[0, 1, 2]];
+
 #[test]
 fn all_queries_of_d1() {
     for (query, sums) in SUMS.iter().enumerate() {
         for (i, expected) in sums.iter().enumerate() {
-            let plan = d1(12).plan(query as u64, i + 1, 80);
-            assert_eq!(plan.map(|plan| sum(&plan)), Ok(*expected));
+            let plan = d1(12).plan(query as u64, i + 1, 80).expect("a plan");
+            assert_eq!((sum(&plan), &ends(&plan)[..]), (*expected, ENDS[i]));
         }
     }
+    assert_eq!(d1(12).plan(0b0100, 2, 45), Ok(D1_IN_TWO_PARTS.to_vec()));
     assert_eq!(d1(12).plan(0b0100, 4, 80), Err((14, 0)));
+}
+
+/// 0–1 in ticks 0 to 3, 0–2 and 1–2 in tick 2, and 0–2 in tick 4. Around 0 in three parts the ends 0, 3, 4 and 1, 2, 4 and 1, 3, 4 and 2, 3, 4 all
+/// have the sum 3: compared from the end, 1, 2, 4 would come first.
+#[test]
+fn compared_from_the_first_number_on() {
+    let words = [0b010, 0b001, 0, 0b010, 0b001, 0, 0b110, 0b101, 0b011, 0b010, 0b001, 0, 0b100, 0, 0b001];
+    let plan = Handed::new(&words, 3, 5).plan(0b001, 3, 58).expect("a plan");
+    assert_eq!((sum(&plan), ends(&plan)), (3, vec![0, 3, 4]));
+}
+
+/// Random days: in most of them several cuttings have the greatest sum, so that the first is not the last, and in some it is not the first compared from
+/// the end.
+#[test]
+fn the_first_of_the_best() {
+    let mut random = Random(9);
+    let (mut not_last, mut not_from_the_end) = (0, 0);
+    for _ in 0..4000 {
+        let (n, ticks) = (4 + random.below(4), 7 + random.below(4));
+        let day = random_day(&mut random, n, ticks, 70, 50);
+        let (query, h) = (random.next() & random.next() & random.next() & ((1 << n) - 1), 3 + random.below(ticks - 4));
+        let plan = Handed::new(&day.words(), n, ticks).plan(query, h, 19 + 13 * h).expect("a plan");
+        let best = Cores::of(&day).all_best(query, h);
+        let from_the_end = best.iter().min_by_key(|ends| ends.iter().rev().collect::<Vec<_>>());
+        assert_eq!(Some(&ends(&plan)), best.iter().min());
+        not_last += usize::from(Some(&ends(&plan)) != best.iter().max());
+        not_from_the_end += usize::from(Some(&ends(&plan)) != from_the_end);
+    }
+    assert!(not_last > 2000 && not_from_the_end > 100, "{not_last}, {not_from_the_end}");
 }

@@ -4,7 +4,9 @@ use borrow.Author.Needs.{needs}
 use Rattle.sets.specs.Members.{members}
 use Rattle.records.specs.Outcomes.{success}
 use Rattle.days.specs.Calls.{checkOf, checkedOutcome}
-use Rattle.groups.proofs.PlanCall.{plan-refused, planned-refused}
+use Rattle.days.proofs.Checks.{check-passed}
+use Rattle.log.specs.Buffers.{Delivered}
+use Rattle.groups.proofs.PlanCall.{plan-refused, plan-passed}
 use Rattle.groups.proofs.PlanTheorems.{plan-shown}
 use Rattle.groups.proofs.planning.plan.Statement.{statement}
 use Rattle.groups.proofs.planning.plan.Tie as tie
@@ -23,23 +25,28 @@ enum-told : tie.Need-enum-told
 enum-told c = search needs
 
 plan-day-requires : tie.Need-plan-day-requires
-plan-day-requires c κs = passed (c .before)
+plan-day-requires c κs = check-passed _ _ _ (passed (c .before))
 
 returns : tie.Need-returns
 returns c =
     let s = c .before .before .before in
     let a = s .before .before .before .args in
-    let e = sym (s .check-words .ensures) ∙ ap checkedOutcome (c .before .refusal .given .1) in
-    let p = planned-refused _ _ _ _ _ (a .buffer .now) _ _ (λ ends. plan-refused (a .badges) (a .ticks) (a .words .now) (members (a .query)) (a .parts) ends (a .buffer .now) _ _ e) in
-    (p, plan-shown p)
+    let e = plan-refused (a .badges) (a .ticks) (a .words .now) (members (a .query)) (a .parts) (a .buffer .now) _ _ (sym (s .check-words .ensures) ∙ ap checkedOutcome (c .before .refusal .given .1)) in
+    let x = sym (ap (λ (x : Delivered). x .answer) e) in
+    let y = sym (ap (λ (x : Delivered). x .buffer) e) in
+    (x, (y, plan-shown (a .badges) (a .ticks) (a .words .now) (members (a .query)) (a .parts) (a .buffer .now) _ _ x y))
 
 same-length : tie.Need-same-length
 same-length c = search needs
 
 returns-2 : tie.Need-returns-2
 returns-2 c =
-    let p = c .before .before .plan-day .ensures in
-    (p, plan-shown p)
+    let d = c .before .before in
+    let a = d .before .before .before .before .before .before .before .args in
+    let e = plan-passed (a .badges) (a .ticks) (a .words .now) (members (a .query)) (a .parts) (a .buffer .now) (passed (d .before .before)) in
+    let x = d .plan-day .ensures .0 ∙ sym (ap (λ (x : Delivered). x .answer) e) in
+    let y = d .plan-day .ensures .1 ∙ sym (ap (λ (x : Delivered). x .buffer) e) in
+    (x, (y, plan-shown (a .badges) (a .ticks) (a .words .now) (members (a .query)) (a .parts) (a .buffer .now) _ _ x y))
 
 pub plan-spec : {M : Type 1} → statement M
 plan-spec =

@@ -5,10 +5,10 @@ use Rattle.reference.proofs.plans.best_plan.Statement.{statement}
 use Rattle.reference.proofs.plans.best_plan.Tie as tie
 
 abbrev Inv-loop : tie.InvT-loop
-Inv-loop words n ticks query parts given best₀ cutting₀ best cutting = best .bytes .len ≤ 4096
+Inv-loop words n ticks query parts best₀ cutting₀ best cutting = best .bytes .len ≤ 4096
 
 abbrev μ-loop : tie.MeasureT-loop
-μ-loop words n ticks query parts given best₀ cutting₀ best cutting = 64 - cutting
+μ-loop words n ticks query parts best₀ cutting₀ best cutting = 64 - cutting
 
 pub best-plan-spec : {M : Type 1} → statement M
 best-plan-spec =

@@ -2,6 +2,7 @@
 
 use super::graphs::full;
 use super::{Day, Graph, Record};
+use std::cmp::Reverse;
 
 /// The cores of every span of a day.
 pub struct Cores {
@@ -69,27 +70,37 @@ impl Cores {
         parts
     }
 
-    /// The greatest sum of scores around a query over the ways to cut all ticks into h runs.
-    pub fn greatest_sum(&self, query: u64, h: usize) -> usize {
-        // best[t]: the greatest sum of the ticks before t, in so many runs as were added; none where they cannot be cut so
-        let mut best: Vec<Option<usize>> = vec![None; self.ticks + 1];
-        best[0] = Some(0);
+    /// The last ticks of a plan's h parts around a query: of the ways to cut all ticks into h runs, those of the greatest sum of scores, and of these
+    /// the list that comes first, compared number by number.
+    pub fn ends(&self, query: u64, h: usize) -> Vec<usize> {
         let scores: Vec<Vec<usize>> = (0..self.ticks).map(|last| (0..=last).map(|first| self.highest(query, first, last).0).collect()).collect();
+        // best[t]: the greatest sum of the ticks before t, in so many runs as were added, and the first list that has it; none where they cannot be cut so.
+        // Lists of as many numbers stay in their order when each gets the same number as its last.
+        let mut best: Vec<Option<(usize, Vec<usize>)>> = vec![None; self.ticks + 1];
+        best[0] = Some((0, Vec::new()));
         for _ in 0..h {
             let mut next = vec![None; self.ticks + 1];
-            for (end, sum) in next.iter_mut().enumerate().skip(1) {
-                *sum = (0..end).filter_map(|start| Some(best[start]? + scores[end - 1][start])).max();
+            for (end, found) in next.iter_mut().enumerate().skip(1) {
+                let cut = |start: usize| best[start].as_ref().map(|(sum, ends)| (sum + scores[end - 1][start], Reverse(ends)));
+                let (sum, Reverse(ends)) = match (0..end).filter_map(cut).max() {
+                    Some(greatest) => greatest,
+                    None => continue,
+                };
+                *found = Some((sum, [&ends[..], &[end - 1]].concat()));
             }
             best = next;
         }
-        best[self.ticks].expect("there are no more parts than ticks")
+        best.pop().flatten().expect("there are no more parts than ticks").1
     }
 
-    /// The same by trying every cutting: bit t of a number says whether a run ends with tick t. For days of few ticks.
-    pub fn greatest_sum_of_all(&self, query: u64, h: usize) -> usize {
+    /// The lists of last ticks of all cuttings into h runs that have the greatest sum, by trying every cutting: bit t of a number says whether a run
+    /// ends with tick t. For days of few ticks.
+    pub fn all_best(&self, query: u64, h: usize) -> Vec<Vec<usize>> {
         let cuttings = (0..1u32 << (self.ticks - 1)).filter(|cuts| cuts.count_ones() as usize == h - 1);
         let ends = |cuts: u32| -> Vec<usize> { (0..self.ticks).filter(|&t| t + 1 == self.ticks || cuts >> t & 1 == 1).collect() };
-        let sum = |cuts: u32| self.parts(query, &ends(cuts)).iter().map(|part| part.0).sum();
-        cuttings.map(sum).max().expect("there are no more parts than ticks")
+        let sum = |ends: &Vec<usize>| -> usize { self.parts(query, ends).iter().map(|part| part.0).sum() };
+        let all: Vec<_> = cuttings.map(ends).map(|ends| (sum(&ends), ends)).collect();
+        let greatest = all.iter().map(|(sum, _)| *sum).max();
+        all.into_iter().filter(|(sum, _)| Some(*sum) == greatest).map(|(_, ends)| ends).collect()
     }
 }

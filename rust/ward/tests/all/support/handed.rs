@@ -45,6 +45,11 @@ impl Handed {
         self.compare("report", room, self.groups(least), call)
     }
 
+    pub fn plan(&self, query: u64, parts: usize, room: usize) -> Result<Vec<u8>, Refusal> {
+        let call = |words: &[u64], out: &mut [u8]| ward::plan(words, self.n, self.ticks, query, parts, out);
+        self.compare("plan", room, self.parts(query, parts), call)
+    }
+
     fn compare(
         &self,
         name: &'static str,
@@ -59,18 +64,6 @@ impl Handed {
         out.holds(written.as_deref().unwrap_or(&[]));
         words.is_unchanged();
         written
-    }
-
-    /// A plan may cut anywhere that attains the greatest sum: all else of it is fixed.
-    pub fn plan(&self, query: u64, parts: usize, room: usize) -> Result<Vec<u8>, Refusal> {
-        let (mut words, mut out) = (Lent::holding(&self.words), Lent::room(room));
-        let answer = ward::plan(words.slice(), self.n, self.ticks, query, parts, out.slice()).map_err(|r| refusal("plan", r));
-        let size = self.plan_size(query, parts).and_then(|size| if room < size { Err((9, 0)) } else { Ok(size) });
-        assert_eq!(answer, size);
-        let plan = size.map(|size| self.cut_there(query, parts, &out.slice()[..size]));
-        out.holds(plan.as_deref().unwrap_or(&[]));
-        words.is_unchanged();
-        plan
     }
 }
 
@@ -104,28 +97,19 @@ impl Handed {
         Ok(model::report_bytes(self.n, self.ticks, &model::kept(groups, least)))
     }
 
-    /// The number of bytes of a plan: 10, 8, 11, 13, 14.
-    pub fn plan_size(&self, query: u64, parts: usize) -> Result<usize, Refusal> {
-        self.day()?;
+    /// Plan: 10, 8, 11, 13, 14.
+    pub fn parts(&self, query: u64, parts: usize) -> Result<Vec<u8>, Refusal> {
+        let cores = self.cores()?;
         if self.n < 64 && query >> self.n != 0 {
-            Err((13, 0))
-        } else if parts == 0 || parts > self.ticks {
-            Err((14, 0))
-        } else {
-            Ok(19 + 13 * parts)
+            return Err((13, 0));
         }
-    }
-
-    /// The model's plan for the ends that a plan chose, once these are found to cut the day with the greatest sum.
-    fn cut_there(&self, query: u64, parts: usize, plan: &[u8]) -> Vec<u8> {
-        let cores = self.cores().expect("a day");
-        let ends: Vec<usize> = (0..parts).map(|i| plan[13 + 13 * i + 4] as usize).collect();
-        let records = cores.parts(query, &ends);
-        let sum: usize = records.iter().map(|part| part.0).sum();
-        assert_eq!(sum, cores.greatest_sum(query, parts));
+        if parts == 0 || parts > self.ticks {
+            return Err((14, 0));
+        }
+        let ends = cores.ends(query, parts);
         if self.ticks <= 10 {
-            assert_eq!(sum, cores.greatest_sum_of_all(query, parts));
+            assert_eq!(Some(&ends), cores.all_best(query, parts).iter().min());
         }
-        model::plan_bytes(self.n, self.ticks, query, &records)
+        Ok(model::plan_bytes(self.n, self.ticks, query, &cores.parts(query, &ends)))
     }
 }

@@ -1,0 +1,68 @@
+-- What the promise of the plan comes to: the plan statement leaves no choice of the sum, and none of the ends; and a call that keeps the promise
+-- succeeds in a buffer of the length that h fixes, with the first of the best cuttings.
+use mathlib.Core.Path.{_≡_, refl, sym, ap, _∙_}
+use mathlib.Core.List.{List, _∷_, _++_}
+use Prim.Native.Nat.{ℕ, _+_, _*_, _≤_}
+use native.Mathlib.Omega.{arith}
+use lib.ListN.{length, take, drop, length-append}
+use lib.Seq.{take-at}
+use Rattle.sets.specs.Ascii.{ascii}
+use Rattle.sets.specs.Sets.{full}
+use Rattle.sets.specs.Bytes.{littleEndian}
+use Rattle.sets.proofs.Bytes.{length-little-endian}
+use Rattle.records.specs.declared.record.Record.the-variants.{End}
+use Rattle.records.specs.Records.{encode}
+use Rattle.records.specs.Outcomes.{success}
+use Rattle.records.proofs.Records.{length-encode}
+use Rattle.log.specs.Buffers.{Delivered}
+use Rattle.cuts.specs.Sums.{bestEnds}
+use Rattle.cuts.proofs.FirstCuttings.{neither-before}
+use Rattle.spans.specs.SpanCores.{SpanCore}
+use Rattle.spans.specs.Plans.{scoreOn}
+use Rattle.spans.specs.Encoding.{encodeCores, planBytes, planRecords}
+use Rattle.spans.specs.PlanStatement.{Runs, none, run, sumOfOrders, partEnds, PlanStatement, PlanAsked}
+use Rattle.spans.proofs.Encoding.{encode-cores-length}
+use Rattle.spans.proofs.PlanParts.{parts-stated, plan-ends}
+use Rattle.groups.specs.ShiftPlans.{PlansShifts}
+
+-- The statement leaves no choice of the sum: two lists of which it holds have the same;
+module _ {n T : ℕ} {ws : List ℕ} {base query h : ℕ} (xs ys : List SpanCore) (x : PlanStatement n T ws base query h xs) (y : PlanStatement n T ws base query h ys) where
+  pub sums-same : sumOfOrders xs ≡ sumOfOrders ys
+  sums-same = omega (arith, x .greatest ys (y .cutting), y .greatest xs (x .cutting))
+
+  -- and none of the ends: "No plan is left free then, and none is named as free."
+  pub ends-same : partEnds xs ≡ partEnds ys
+  ends-same = neither-before (partEnds xs) (partEnds ys) (y .first xs (x .cutting) sums-same) (x .first ys (y .cutting) (sym sums-same))
+
+-- they are the first of the best cuttings by the scores (cuts: Sums.best-ends)
+pub ends-found : {n T : ℕ} {ws : List ℕ} {query h : ℕ} (parts : List SpanCore) → PlanAsked n T ws query h → PlanStatement n T ws (full n) query h parts
+    → partEnds parts ≡ bestEnds (scoreOn n ws query) T h
+ends-found parts a s = ends-same parts _ s (parts-stated a) ∙ plan-ends a
+
+-- h runs are h parts, and a plan's length is that of h parts
+runs-length : {T h t : ℕ} {ps : List SpanCore} → Runs T h t ps → length ps ≡ h
+runs-length none = refl
+runs-length (run l r) = omega (arith, runs-length r)
+
+pub plan-length : {n T : ℕ} {ws : List ℕ} {base query h : ℕ} (ps : List SpanCore) → PlanStatement n T ws base query h ps → length (planBytes n T h query ps) ≡ 19 + 13 * h
+unfolding planBytes
+plan-length {n} {T} {ws} {base} {query} {h} ps s = omega (
+  arith,
+  runs-length (s .cutting .runs),
+  length-append (ascii "PH" ++ (n ∷ T ∷ h ∷ littleEndian 8 query)) (encodeCores (ascii "PT") ps ++ encode (End h)),
+  length-append (encodeCores (ascii "PT") ps) (encode (End h)),
+  length-little-endian 8 query,
+  encode-cores-length (ascii "PT") refl ps,
+  length-encode (End h),
+)
+
+-- So a call that keeps the promise succeeds in a buffer of that length or more, and its bytes say parts of which the statement holds.
+pub plan-kept : (call : ℕ → ℕ → List ℕ → ℕ → ℕ → List ℕ → Delivered) → PlansShifts call → {n T : ℕ} {ws : List ℕ} {query h : ℕ} (buffer : List ℕ) → PlanAsked n T ws query h
+    → 19 + 13 * h ≤ length buffer
+    → (size : ℕ) × (call n T ws query h buffer .answer ≡ success size) × PlanStatement n T ws (full n) query h (planRecords (take size (call n T ws query h buffer .buffer)))
+plan-kept call p {n} {T} {ws} {query} {h} buffer a l =
+    let shift = p n T ws query h buffer a in
+    let bytes : List ℕ = planBytes n T h query (shift .parts) in
+    let e = shift .succeeds (omega (arith, plan-length (shift .parts) (shift .stated))) in
+    let t : take (length bytes) (call n T ws query h buffer .buffer) ≡ bytes = ap (λ (x : Delivered). take (length bytes) (x .buffer)) e ∙ take-at bytes (drop (length bytes) buffer) (length bytes) refl in
+    (length bytes, ap (λ (x : Delivered). x .answer) e, rw (t, shift .said) (shift .stated))
