@@ -8,7 +8,7 @@ use native.Mathlib.Omega.{arith}
 use Rattle.cuts.specs.Cuttings.{Cutting, total, IsBest, ComesBefore, IsFirstBest}
 use Rattle.cuts.proofs.Cuttings.{total-same}
 
--- of two lists neither of which comes before the other, both are the same
+-- two lists of which neither comes before the other are the same
 pub neither-before : (xs ys : List ℕ) → (ComesBefore xs ys → ⊥) → (ComesBefore ys xs → ⊥) → xs ≡ ys
 neither-before [] [] f g = refl
 neither-before [] (y ∷ ys) f g = absurd (f Lexᴰ·nil)
@@ -26,7 +26,7 @@ pub best-of-sum : {score : ℕ → ℕ → ℕ} {T h : ℕ} {es best : List ℕ}
 best-of-sum b c e = record { cutting = c; greatest = λ xs k. omega (arith, b .greatest xs k) }
 
 -- Two score functions that agree on all runs of T ticks have the same best cuttings, and so the same first of them.
-pub best-same : (f g : ℕ → ℕ → ℕ) {T h : ℕ} {es : List ℕ} → ((a b : ℕ) → a ≤ b → b < T → f a b ≡ g a b) → IsBest f T h es → IsBest g T h es
+best-same : (f g : ℕ → ℕ → ℕ) {T h : ℕ} {es : List ℕ} → ((a b : ℕ) → a ≤ b → b < T → f a b ≡ g a b) → IsBest f T h es → IsBest g T h es
 best-same f g {T} {h} {es} same b =
     let t : (xs : List ℕ) → Cutting T h xs → total f 0 xs ≡ total g 0 xs = λ xs c. total-same f g T same h c in
     record { cutting = b .cutting; greatest = λ xs c. omega (arith, b .greatest xs c, t xs c, t es (b .cutting)) }

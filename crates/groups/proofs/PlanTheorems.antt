@@ -19,7 +19,7 @@ use Rattle.spans.specs.Plans.{partsOf, isQuery, isParts}
 use Rattle.spans.specs.Encoding.{planBytes, planRecords}
 use Rattle.spans.specs.PlanStatement.{PlanStatement, PlanAsked}
 use Rattle.spans.proofs.Decoding.{plan-said}
-use Rattle.spans.proofs.PlanParts.{parts-stated, plan-length, plan-small}
+use Rattle.spans.proofs.PlanParts.{parts-stated, plan-count, plan-small}
 use Rattle.groups.specs.Calls.{planJudged, planOf}
 use Rattle.groups.specs.ShiftPlans.{PlansShifts, PlanShown}
 use Rattle.groups.proofs.PlanCall.{judged-plan, plan-passed}
@@ -28,7 +28,7 @@ use Rattle.groups.proofs.PlanCall.{judged-plan, plan-passed}
 parts-said : {n T : ℕ} {ws : List ℕ} {query h : ℕ} → PlanAsked n T ws query h → planRecords (planBytes n T h query (partsOf n T ws query h)) ≡ partsOf n T ws query h
 parts-said {n} {T} {ws} {query} {h} a =
     let l = limits-of (a .lent .limits) in
-    plan-said n T h query (partsOf n T ws query h) (plan-small a) (plan-length a) (omega (arith, a .enough, l .short))
+    plan-said n T h query (partsOf n T ws query h) (plan-small a) (plan-count a) (omega (arith, a .enough, l .short))
 
 -- The call keeps its promise.
 pub plans-shifts : PlansShifts planOf

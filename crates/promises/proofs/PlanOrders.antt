@@ -19,7 +19,7 @@ use Rattle.spans.specs.Encoding.{planRecords}
 use Rattle.spans.specs.PlanStatement.{partEnds, PlanAsked}
 use Rattle.groups.specs.ShiftPlans.{PlansShifts}
 use Rattle.promises.specs.Ties.{tiesWords}
-use Rattle.promises.proofs.PlanPromise.{ends-found, plan-kept}
+use Rattle.promises.proofs.PlanPromise.{plan-succeeds, ends-found, ends-first}
 use Rattle.promises.proofs.SmallDays.{computing}
 
 ties-asked : PlanAsked 3 5 tiesWords 1 3
@@ -49,18 +49,22 @@ ChoosesBy comes call =
     (n T : ℕ) (ws : List ℕ) (query h : ℕ) (buffer : List ℕ) (size : ℕ) → PlanAsked n T ws query h → call n T ws query h buffer .answer ≡ success size
     → (es : List ℕ) → IsBest (scoreOn n ws query) T h es → comes es (partEnds (planRecords (take size (call n T ws query h buffer .buffer)))) → ⊥
 
--- It does not keep the promise where by that order a best cutting of this day comes before the ends 0, 3 and 4.
+-- Every call that keeps the promise chooses by the order of numbers from the first on.
+pub chooses-first : (call : ℕ → ℕ → List ℕ → ℕ → ℕ → List ℕ → Delivered) → PlansShifts call → ChoosesBy ComesBefore call
+chooses-first call p n T ws query h buffer size a g = ends-first call p buffer a size g .first
+
+-- None that keeps it chooses by an order in which a best cutting of this day comes before the ends 0, 3 and 4:
 other-order : (comes : List ℕ → List ℕ → Type 0) {es : List ℕ} → IsBest (scoreOn 3 tiesWords 1) 5 3 es → comes es (0 ∷ 3 ∷ 4 ∷ [])
     → (call : ℕ → ℕ → List ℕ → ℕ → ℕ → List ℕ → Delivered) → ChoosesBy comes call → PlansShifts call → ⊥
 other-order comes {es} b o call c p =
     let lent : List ℕ = replicate 58 0 in
-    let k = plan-kept call p lent ties-asked (omega (arith, length-replicate {A = ℕ} 58 0)) in
-    c 3 5 tiesWords 1 3 lent (k .0) ties-asked (k .1) es b (rw (ends-found _ ties-asked (k .2) ∙ ties-ends) o)
+    let k = plan-succeeds call p lent ties-asked (omega (arith, length-replicate {A = ℕ} 58 0)) in
+    c 3 5 tiesWords 1 3 lent (k .0) ties-asked (k .1) es b (rw (ends-found call p lent ties-asked (k .0) (k .1) ∙ ties-ends) o)
 
--- A call that takes the last of the best;
+-- so none that takes the last of the best,
 pub last-of-the-best : (call : ℕ → ℕ → List ℕ → ℕ → ℕ → List ℕ → Delivered) → ChoosesBy (λ xs ys. ComesBefore ys xs) call → PlansShifts call → ⊥
 last-of-the-best = other-order (λ xs ys. ComesBefore ys xs) last-best (Lexᴰ·rel (omega arith))
 
--- and one that takes the first, but compares the lists from the end.
+-- and none that takes the first, but compares the lists from the end.
 pub compared-from-the-end : (call : ℕ → ℕ → List ℕ → ℕ → ℕ → List ℕ → Delivered) → ChoosesBy (λ xs ys. ComesBefore (reverse xs) (reverse ys)) call → PlansShifts call → ⊥
 compared-from-the-end = other-order (λ xs ys. ComesBefore (reverse xs) (reverse ys)) middle-best (Lexᴰ·cons refl (Lexᴰ·rel (omega arith)))

@@ -1,8 +1,10 @@
--- What the promise of the plan comes to: the plan statement leaves no choice of the sum, and none of the ends; and a call that keeps the promise
--- succeeds in a buffer of the length that h fixes, with the first of the best cuttings.
+-- What the promise of the plan comes to: the plan statement leaves no choice of the sum, and none of the ends; so a call that keeps the promise gives
+-- the first of the best cuttings, and succeeds in a buffer of the length that h fixes.
 use mathlib.Core.Path.{_≡_, refl, sym, ap, _∙_}
 use mathlib.Core.List.{List, _∷_, _++_}
-use Prim.Native.Nat.{ℕ, _+_, _*_, _≤_}
+use mathlib.Core.Logic.{by-cases}
+use Prim.Native.Nat.{ℕ, _+_, _*_, _≤_, _<_}
+use native.Mathlib.Decide.{decLt}
 use native.Mathlib.Omega.{arith}
 use lib.ListN.{length, take, drop, length-append}
 use lib.Seq.{take-at}
@@ -13,17 +15,20 @@ use Rattle.sets.proofs.Bytes.{length-little-endian}
 use Rattle.records.specs.declared.record.Record.the-variants.{End}
 use Rattle.records.specs.Records.{encode}
 use Rattle.records.specs.Outcomes.{success}
+use Rattle.records.proofs.Outcomes.{refused-success, success-same}
 use Rattle.records.proofs.Records.{length-encode}
 use Rattle.log.specs.Buffers.{Delivered}
+use Rattle.cuts.specs.Cuttings.{IsFirstBest}
 use Rattle.cuts.specs.Sums.{bestEnds}
 use Rattle.cuts.proofs.FirstCuttings.{neither-before}
+use Rattle.cuts.proofs.Sums.{best-ends}
 use Rattle.spans.specs.SpanCores.{SpanCore}
 use Rattle.spans.specs.Plans.{scoreOn}
 use Rattle.spans.specs.Encoding.{encodeCores, planBytes, planRecords}
 use Rattle.spans.specs.PlanStatement.{Runs, none, run, sumOfOrders, partEnds, PlanStatement, PlanAsked}
 use Rattle.spans.proofs.Encoding.{encode-cores-length}
 use Rattle.spans.proofs.PlanParts.{parts-stated, plan-ends}
-use Rattle.groups.specs.ShiftPlans.{PlansShifts}
+use Rattle.groups.specs.ShiftPlans.{PlansShift, PlansShifts}
 
 -- The statement leaves no choice of the sum: two lists of which it holds have the same;
 module _ {n T : ℕ} {ws : List ℕ} {base query h : ℕ} (xs ys : List SpanCore) (x : PlanStatement n T ws base query h xs) (y : PlanStatement n T ws base query h ys) where
@@ -33,11 +38,6 @@ module _ {n T : ℕ} {ws : List ℕ} {base query h : ℕ} (xs ys : List SpanCore
   -- and none of the ends: "No plan is left free then, and none is named as free."
   pub ends-same : partEnds xs ≡ partEnds ys
   ends-same = neither-before (partEnds xs) (partEnds ys) (y .first xs (x .cutting) sums-same) (x .first ys (y .cutting) (sym sums-same))
-
--- they are the first of the best cuttings by the scores (cuts: Sums.best-ends)
-pub ends-found : {n T : ℕ} {ws : List ℕ} {query h : ℕ} (parts : List SpanCore) → PlanAsked n T ws query h → PlanStatement n T ws (full n) query h parts
-    → partEnds parts ≡ bestEnds (scoreOn n ws query) T h
-ends-found parts a s = ends-same parts _ s (parts-stated a) ∙ plan-ends a
 
 -- h runs are h parts, and a plan's length is that of h parts
 runs-length : {T h t : ℕ} {ps : List SpanCore} → Runs T h t ps → length ps ≡ h
@@ -56,13 +56,39 @@ plan-length {n} {T} {ws} {base} {query} {h} ps s = omega (
   length-encode (End h),
 )
 
--- So a call that keeps the promise succeeds in a buffer of that length or more, and its bytes say parts of which the statement holds.
-pub plan-kept : (call : ℕ → ℕ → List ℕ → ℕ → ℕ → List ℕ → Delivered) → PlansShifts call → {n T : ℕ} {ws : List ℕ} {query h : ℕ} (buffer : List ℕ) → PlanAsked n T ws query h
-    → 19 + 13 * h ≤ length buffer
-    → (size : ℕ) × (call n T ws query h buffer .answer ≡ success size) × PlanStatement n T ws (full n) query h (planRecords (take size (call n T ws query h buffer .buffer)))
-plan-kept call p {n} {T} {ws} {query} {h} buffer a l =
-    let shift = p n T ws query h buffer a in
-    let bytes : List ℕ = planBytes n T h query (shift .parts) in
-    let e = shift .succeeds (omega (arith, plan-length (shift .parts) (shift .stated))) in
-    let t : take (length bytes) (call n T ws query h buffer .buffer) ≡ bytes = ap (λ (x : Delivered). take (length bytes) (x .buffer)) e ∙ take-at bytes (drop (length bytes) buffer) (length bytes) refl in
-    (length bytes, ap (λ (x : Delivered). x .answer) e, rw (t, shift .said) (shift .stated))
+-- A call that keeps the promise:
+module _ (call : ℕ → ℕ → List ℕ → ℕ → ℕ → List ℕ → Delivered) (p : PlansShifts call) {n T : ℕ} {ws : List ℕ} {query h : ℕ} (buffer : List ℕ) (a : PlanAsked n T ws query h) where
+  abbrev bytes : List ℕ
+  bytes = planBytes n T h query (p n T ws query h buffer a .parts)
+
+  -- it succeeds in a buffer of 19 + 13×h bytes or more;
+  pub plan-succeeds : 19 + 13 * h ≤ length buffer → (size : ℕ) × (call n T ws query h buffer .answer ≡ success size)
+  plan-succeeds l =
+      let s = p n T ws query h buffer a in
+      (length bytes, ap (λ (x : Delivered). x .answer) (s .succeeds (omega (arith, plan-length (s .parts) (s .stated)))))
+
+  -- where it succeeds, its bytes say parts of which the plan statement holds,
+  pub plan-kept : (size : ℕ) → call n T ws query h buffer .answer ≡ success size → PlanStatement n T ws (full n) query h (planRecords (take size (call n T ws query h buffer .buffer)))
+  plan-kept size g = by-cases (decLt (length buffer) (length bytes)) short long
+    where
+      s : PlansShift n T ws query h buffer (call n T ws query h buffer)
+      s = p n T ws query h buffer a
+
+      short : length buffer < length bytes → PlanStatement n T ws (full n) query h (planRecords (take size (call n T ws query h buffer .buffer)))
+      short l = absurd (refused-success (sym (ap (λ (x : Delivered). x .answer) (s .measures l)) ∙ g))
+
+      long : (length buffer < length bytes → ⊥) → PlanStatement n T ws (full n) query h (planRecords (take size (call n T ws query h buffer .buffer)))
+      long l =
+          let e = s .succeeds (omega arith) in
+          let z : length bytes ≡ size = success-same (sym (ap (λ (x : Delivered). x .answer) e) ∙ g) in
+          let t : take size (call n T ws query h buffer .buffer) ≡ bytes = ap (λ (x : Delivered). take size (x .buffer)) e ∙ take-at bytes (drop (length bytes) buffer) size z in
+          rw (t, s .said) (s .stated)
+
+  -- and their ends are the first of the best cuttings, by the scores
+  pub ends-found : (size : ℕ) → call n T ws query h buffer .answer ≡ success size
+      → partEnds (planRecords (take size (call n T ws query h buffer .buffer))) ≡ bestEnds (scoreOn n ws query) T h
+  ends-found size g = ends-same _ _ (plan-kept size g) (parts-stated a) ∙ plan-ends a
+
+  pub ends-first : (size : ℕ) → call n T ws query h buffer .answer ≡ success size
+      → IsFirstBest (scoreOn n ws query) T h (partEnds (planRecords (take size (call n T ws query h buffer .buffer))))
+  ends-first size g = rw (ends-found size g) (best-ends (scoreOn n ws query) T h (a .some) (a .enough))

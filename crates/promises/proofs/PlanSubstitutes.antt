@@ -26,7 +26,7 @@ use Rattle.spans.proofs.Decoding.{last-four}
 use Rattle.spans.proofs.PlanParts.{order-le, parts-stated}
 use Rattle.groups.specs.ShiftPlans.{PlansShift, PlansShifts}
 use Rattle.promises.specs.D1.{d1Words}
-use Rattle.promises.proofs.PlanPromise.{sums-same, plan-length, plan-kept}
+use Rattle.promises.proofs.PlanPromise.{sums-same, plan-length, plan-succeeds, plan-kept}
 use Rattle.promises.proofs.SmallDays.{computing, d1-lent}
 
 -- n 3, T 4: 0–1 in ticks 0 and 1, 0–2 in ticks 2 and 3
@@ -108,8 +108,8 @@ pub careless-call : (call : ℕ → ℕ → List ℕ → ℕ → ℕ → List �
     → PlansShifts call → ⊥
 careless-call call e p =
     let lent : List ℕ = replicate 45 0 in
-    let k = plan-kept call p lent turning-asked (omega (arith, length-replicate {A = ℕ} 45 0)) in
-    careless-stated _ (k .2) (e 3 4 turning 1 2 lent (k .0) turning-asked (omega arith) (k .1))
+    let k = plan-succeeds call p lent turning-asked (omega (arith, length-replicate {A = ℕ} 45 0)) in
+    careless-stated _ (plan-kept call p lent turning-asked (k .0) (k .1)) (e 3 4 turning 1 2 lent (k .0) turning-asked (omega arith) (k .1))
 
 -- Members that are not the core: D1 around badge 2 in one part, of score 1. No set with a member that has no fellow member can be shown,
 pub members-not-the-core : (s u : ℕ) → In s u → size (fellows 4 d1Words 0 2 s u) ≡ 0

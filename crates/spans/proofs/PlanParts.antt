@@ -186,9 +186,9 @@ module _ {n T : ℕ} {ws : List ℕ} {query h : ℕ} (a : PlanAsked n T ws query
     other-best e = record { cutting = other-cutting; greatest = λ es c. omega (arith, ends-first .best .greatest es c, other-sum, plan-sum) }
 
   -- there are h parts, with members that fit a set
-  pub plan-length : length (partsOf n T ws query h) ≡ h
+  pub plan-count : length (partsOf n T ws query h) ≡ h
   unfolding partsOf
-  plan-length = parts-length n ws query 0 (bestEnds (scoreOn n ws query) T h) ∙ ends-first .best .cutting .count
+  plan-count = parts-length n ws query 0 (bestEnds (scoreOn n ws query) T h) ∙ ends-first .best .cutting .count
 
   pub plan-small : (p : SpanCore) → Mem p (partsOf n T ws query h) → p .members < 2 ^ capacity
   unfolding partsOf
