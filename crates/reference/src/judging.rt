@@ -1,6 +1,5 @@
 // The judge of logs: record by record, each in document 01's order. The header has four bytes and every other record six, so record k after
 // the header starts at 4 + 6k.
-ghost use mathlib.Core.Path.{_≡_};
 ghost use Prim.Native.Nat.{_≤_, _<_};
 ghost use Rattle.reference.specs.Verdicts.{Judged};
 use crate::bytes::BH;
