@@ -23,8 +23,8 @@ pub record IsBest (score : ℕ → ℕ → ℕ) (T h : ℕ) (ends : List ℕ) : 
   pub cutting : Cutting T h ends
   pub greatest : (es : List ℕ) → Cutting T h es → total score 0 es ≤ total score 0 ends
 
--- One list of numbers comes before another, compared number by number: at the first place where they differ, its number is the smaller.
--- (Standard term: lexicographic order.)
+-- One list of numbers comes before another, compared number by number: at the first place where they differ its number is the smaller, or it has
+-- ended. (Standard term: lexicographic order.)
 abbrev pub ComesBefore : List ℕ → List ℕ → Type 0
 ComesBefore xs ys = Lexᴰ _<_ xs ys
 

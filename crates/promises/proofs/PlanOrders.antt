@@ -59,7 +59,7 @@ other-order : (comes : List ℕ → List ℕ → Type 0) {es : List ℕ} → IsB
 other-order comes {es} b o call c p =
     let lent : List ℕ = replicate 58 0 in
     let k = plan-succeeds call p lent ties-asked (omega (arith, length-replicate {A = ℕ} 58 0)) in
-    c 3 5 tiesWords 1 3 lent (k .0) ties-asked (k .1) es b (rw (ends-found call p lent ties-asked (k .0) (k .1) ∙ ties-ends) o)
+    c 3 5 tiesWords 1 3 lent _ ties-asked k es b (rw (ends-found call p lent ties-asked _ k ∙ ties-ends) o)
 
 -- so none that takes the last of the best,
 pub last-of-the-best : (call : ℕ → ℕ → List ℕ → ℕ → ℕ → List ℕ → Delivered) → ChoosesBy (λ xs ys. ComesBefore ys xs) call → PlansShifts call → ⊥

@@ -3,11 +3,10 @@
 use mathlib.Core.Path.{_≡_, refl, sym, ap, _∙_}
 use mathlib.Core.List.{List, _∷_, _++_}
 use mathlib.Core.Logic.{by-cases}
-use Prim.Native.Nat.{ℕ, _+_, _*_, _≤_, _<_}
+use Prim.Native.Nat.{ℕ, _+_, _*_, _≤_}
 use native.Mathlib.Decide.{decLt}
 use native.Mathlib.Omega.{arith}
-use lib.ListN.{length, take, drop, length-append}
-use lib.Seq.{take-at}
+use lib.ListN.{length, take, length-append}
 use Rattle.sets.specs.Ascii.{ascii}
 use Rattle.sets.specs.Sets.{full}
 use Rattle.sets.specs.Bytes.{littleEndian}
@@ -15,9 +14,10 @@ use Rattle.sets.proofs.Bytes.{length-little-endian}
 use Rattle.records.specs.declared.record.Record.the-variants.{End}
 use Rattle.records.specs.Records.{encode}
 use Rattle.records.specs.Outcomes.{success}
-use Rattle.records.proofs.Outcomes.{refused-success, success-same}
+use Rattle.records.proofs.Outcomes.{success-same}
 use Rattle.records.proofs.Records.{length-encode}
-use Rattle.log.specs.Buffers.{Delivered}
+use Rattle.log.specs.Buffers.{Delivered, deliver}
+use Rattle.log.proofs.Delivering.{deliver-short, deliver-fits, deliver-success}
 use Rattle.cuts.specs.Cuttings.{IsFirstBest}
 use Rattle.cuts.specs.Sums.{bestEnds}
 use Rattle.cuts.proofs.FirstCuttings.{neither-before}
@@ -28,7 +28,7 @@ use Rattle.spans.specs.Encoding.{encodeCores, planBytes, planRecords}
 use Rattle.spans.specs.PlanStatement.{Runs, none, run, sumOfOrders, partEnds, PlanStatement, PlanAsked}
 use Rattle.spans.proofs.Encoding.{encode-cores-length}
 use Rattle.spans.proofs.PlanParts.{parts-stated, plan-ends}
-use Rattle.groups.specs.ShiftPlans.{PlansShift, PlansShifts}
+use Rattle.groups.specs.ShiftPlans.{PlansShifts}
 
 -- The statement leaves no choice of the sum: two lists of which it holds have the same;
 module _ {n T : ℕ} {ws : List ℕ} {base query h : ℕ} (xs ys : List SpanCore) (x : PlanStatement n T ws base query h xs) (y : PlanStatement n T ws base query h ys) where
@@ -44,7 +44,7 @@ runs-length : {T h t : ℕ} {ps : List SpanCore} → Runs T h t ps → length ps
 runs-length none = refl
 runs-length (run l r) = omega (arith, runs-length r)
 
-pub plan-length : {n T : ℕ} {ws : List ℕ} {base query h : ℕ} (ps : List SpanCore) → PlanStatement n T ws base query h ps → length (planBytes n T h query ps) ≡ 19 + 13 * h
+plan-length : {n T : ℕ} {ws : List ℕ} {base query h : ℕ} (ps : List SpanCore) → PlanStatement n T ws base query h ps → length (planBytes n T h query ps) ≡ 19 + 13 * h
 unfolding planBytes
 plan-length {n} {T} {ws} {base} {query} {h} ps s = omega (
   arith,
@@ -58,33 +58,31 @@ plan-length {n} {T} {ws} {base} {query} {h} ps s = omega (
 
 -- A call that keeps the promise:
 module _ (call : ℕ → ℕ → List ℕ → ℕ → ℕ → List ℕ → Delivered) (p : PlansShifts call) {n T : ℕ} {ws : List ℕ} {query h : ℕ} (buffer : List ℕ) (a : PlanAsked n T ws query h) where
-  abbrev bytes : List ℕ
+  abbrev pub bytes : List ℕ
   bytes = planBytes n T h query (p n T ws query h buffer a .parts)
 
-  -- it succeeds in a buffer of 19 + 13×h bytes or more;
-  pub plan-succeeds : 19 + 13 * h ≤ length buffer → (size : ℕ) × (call n T ws query h buffer .answer ≡ success size)
-  plan-succeeds l =
+  -- it delivers the bytes of parts of which the plan statement holds, and which they say;
+  delivers : call n T ws query h buffer ≡ deliver (success bytes) buffer
+  delivers =
       let s = p n T ws query h buffer a in
-      (length bytes, ap (λ (x : Delivered). x .answer) (s .succeeds (omega (arith, plan-length (s .parts) (s .stated)))))
+      by-cases (decLt (length buffer) (length bytes)) (λ l. s .measures l ∙ sym (deliver-short bytes buffer l)) (λ l. s .succeeds (omega arith) ∙ sym (deliver-fits bytes buffer (omega arith)))
 
-  -- where it succeeds, its bytes say parts of which the plan statement holds,
+  pub plan-bytes : (size : ℕ) → call n T ws query h buffer .answer ≡ success size → take size (call n T ws query h buffer .buffer) ≡ bytes
+  plan-bytes size g =
+      let d = deliver-success (success bytes) buffer size (sym (ap (λ (x : Delivered). x .answer) delivers) ∙ g) in
+      ap (λ (x : Delivered). take size (x .buffer)) delivers ∙ d .2 ∙ sym (success-same (d .1))
+
   pub plan-kept : (size : ℕ) → call n T ws query h buffer .answer ≡ success size → PlanStatement n T ws (full n) query h (planRecords (take size (call n T ws query h buffer .buffer)))
-  plan-kept size g = by-cases (decLt (length buffer) (length bytes)) short long
-    where
-      s : PlansShift n T ws query h buffer (call n T ws query h buffer)
-      s = p n T ws query h buffer a
+  plan-kept size g = let s = p n T ws query h buffer a in rw (plan-bytes size g, s .said) (s .stated)
 
-      short : length buffer < length bytes → PlanStatement n T ws (full n) query h (planRecords (take size (call n T ws query h buffer .buffer)))
-      short l = absurd (refused-success (sym (ap (λ (x : Delivered). x .answer) (s .measures l)) ∙ g))
+  -- it succeeds in a buffer of 19 + 13×h bytes or more, and h fixes the number of bytes;
+  pub bytes-length : length bytes ≡ 19 + 13 * h
+  bytes-length = let s = p n T ws query h buffer a in plan-length (s .parts) (s .stated)
 
-      long : (length buffer < length bytes → ⊥) → PlanStatement n T ws (full n) query h (planRecords (take size (call n T ws query h buffer .buffer)))
-      long l =
-          let e = s .succeeds (omega arith) in
-          let z : length bytes ≡ size = success-same (sym (ap (λ (x : Delivered). x .answer) e) ∙ g) in
-          let t : take size (call n T ws query h buffer .buffer) ≡ bytes = ap (λ (x : Delivered). take size (x .buffer)) e ∙ take-at bytes (drop (length bytes) buffer) size z in
-          rw (t, s .said) (s .stated)
+  pub plan-succeeds : 19 + 13 * h ≤ length buffer → call n T ws query h buffer .answer ≡ success (19 + 13 * h)
+  plan-succeeds l = ap (λ (x : Delivered). x .answer) (p n T ws query h buffer a .succeeds (omega (arith, bytes-length))) ∙ ap success bytes-length
 
-  -- and their ends are the first of the best cuttings, by the scores
+  -- and the ends that its bytes say are the first of the best cuttings, by the scores
   pub ends-found : (size : ℕ) → call n T ws query h buffer .answer ≡ success size
       → partEnds (planRecords (take size (call n T ws query h buffer .buffer))) ≡ bestEnds (scoreOn n ws query) T h
   ends-found size g = ends-same _ _ (plan-kept size g) (parts-stated a) ∙ plan-ends a

@@ -2,10 +2,9 @@
 -- the call keeps (PlanStatement in spans, ShiftPlans in groups).
 use mathlib.Core.Path.{_≡_, refl, sym, ap, _∙_}
 use mathlib.Core.List.{List, [], _∷_, _++_, append-assoc, List·Memᴰ·head, List·Memᴰ·tail}
-use Prim.Native.Nat.{ℕ, suc, _+_, _-_, _≤_, _<_}
+use Prim.Native.Nat.{ℕ, suc, _+_, _-_, _*_, _≤_, _<_}
 use native.Mathlib.Omega.{arith}
 use lib.ListN.{length, getD, take, drop, replicate, length-replicate}
-use lib.Seq.{take-at}
 use Rattle.sets.specs.Ascii.{ascii}
 use Rattle.sets.specs.Sets.{In, full, size}
 use Rattle.sets.specs.Bytes.{littleEndian}
@@ -24,9 +23,9 @@ use Rattle.spans.specs.Encoding.{encodeCores, planBytes, planRecords}
 use Rattle.spans.specs.PlanStatement.{Runs, none, run, sumOfOrders, PlanStatement, PlanAsked}
 use Rattle.spans.proofs.Decoding.{last-four}
 use Rattle.spans.proofs.PlanParts.{order-le, parts-stated}
-use Rattle.groups.specs.ShiftPlans.{PlansShift, PlansShifts}
+use Rattle.groups.specs.ShiftPlans.{PlansShifts}
 use Rattle.promises.specs.D1.{d1Words}
-use Rattle.promises.proofs.PlanPromise.{sums-same, plan-length, plan-succeeds, plan-kept}
+use Rattle.promises.proofs.PlanPromise.{sums-same, bytes, plan-bytes, plan-kept, bytes-length, plan-succeeds}
 use Rattle.promises.proofs.SmallDays.{computing, d1-lent}
 
 -- n 3, T 4: 0–1 in ticks 0 and 1, 0–2 in ticks 2 and 3
@@ -109,7 +108,7 @@ pub careless-call : (call : ℕ → ℕ → List ℕ → ℕ → ℕ → List �
 careless-call call e p =
     let lent : List ℕ = replicate 45 0 in
     let k = plan-succeeds call p lent turning-asked (omega (arith, length-replicate {A = ℕ} 45 0)) in
-    careless-stated _ (plan-kept call p lent turning-asked (k .0) (k .1)) (e 3 4 turning 1 2 lent (k .0) turning-asked (omega arith) (k .1))
+    careless-stated _ (plan-kept call p lent turning-asked _ k) (e 3 4 turning 1 2 lent _ turning-asked (omega arith) k)
 
 -- Members that are not the core: D1 around badge 2 in one part, of score 1. No set with a member that has no fellow member can be shown,
 pub members-not-the-core : (s u : ℕ) → In s u → size (fellows 4 d1Words 0 2 s u) ≡ 0
@@ -140,28 +139,19 @@ module _ (count : ℕ) (call : ℕ → ℕ → List ℕ → ℕ → ℕ → List
   -- it is the number of parts
   right-count : (h : ℕ) → 1 ≤ h → h ≤ 3 → littleEndian 4 count ≡ littleEndian 4 h
   right-count h a b =
-      sym (written 4 3 d1Words 0 h lent (length bytes) asked (ap (λ (x : Delivered). x .answer) succeeds))
-      ∙ ap (λ (x : Delivered). drop (length bytes - 4) (take (length bytes) (x .buffer))) succeeds
-      ∙ ap (drop (length bytes - 4)) (take-at bytes (drop (length bytes) lent) (length bytes) refl)
-      ∙ plan-four 4 3 h 0 (shift .parts)
+      sym (written 4 3 d1Words 0 h lent (19 + 13 * h) asked succeeds)
+      ∙ ap (drop (19 + 13 * h - 4)) (plan-bytes call p lent asked (19 + 13 * h) succeeds)
+      ∙ ap (λ (k : ℕ). drop (k - 4) (bytes call p lent asked)) (sym (bytes-length call p lent asked))
+      ∙ plan-four 4 3 h 0 _
     where
       lent : List ℕ
       lent = replicate 58 0
 
-      long : length lent ≡ 58
-      long = length-replicate {A = ℕ} 58 0
-
       asked : PlanAsked 4 3 d1Words 0 h
       asked = record { lent = d1-lent; named = none-sub (full 4); some = a; enough = b }
 
-      shift : PlansShift 4 3 d1Words 0 h lent (call 4 3 d1Words 0 h lent)
-      shift = p 4 3 d1Words 0 h lent asked
-
-      bytes : List ℕ
-      bytes = planBytes 4 3 h 0 (shift .parts)
-
-      succeeds : call 4 3 d1Words 0 h lent ≡ record { answer = success (length bytes); buffer = bytes ++ drop (length bytes) lent }
-      succeeds = shift .succeeds (omega (arith, plan-length (shift .parts) (shift .stated), long))
+      succeeds : call 4 3 d1Words 0 h lent .answer ≡ success (19 + 13 * h)
+      succeeds = plan-succeeds call p lent asked (omega (arith, length-replicate {A = ℕ} 58 0))
 
   pub plan-count-fixed : ⊥
   unfolding littleEndian
