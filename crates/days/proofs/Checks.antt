@@ -1,18 +1,17 @@
 -- Laws of the check of words that every call on words begins with: its refusals, in the order of judging, when it passes, and that
 -- words after the first n×T change nothing.
-use mathlib.Core.Path.{_≡_, refl, sym, _∙_}
+use mathlib.Core.Path.{_≡_, sym, _∙_}
 use mathlib.Core.Bool.{Bool, true, false}
 use mathlib.Core.List.{List, _++_}
 use Prim.Native.Nat.{ℕ, _≤_, _<_}
 use native.Mathlib.Omega.{arith}
-use lib.Dec.{ltb}
 use lib.ListN.{length, length-append}
-use borrow.Author.Tests.{lt-ltb, le-ltb, ltb-true, ltb-false}
+use borrow.Author.Tests.{lt-ltb, le-ltb, ltb-false}
 use Rattle.sets.specs.Bools.{isnt}
-use Rattle.sets.proofs.Bools.{clash, to-false, same-test}
+use Rattle.sets.proofs.Bools.{to-false, isnt-false, same-test}
 use Rattle.records.specs.Limits.{withinLimits, wordsFor}
 use Rattle.records.specs.Outcomes.{refused, success, refuseIf}
-use Rattle.records.proofs.Outcomes.{refused-success}
+use Rattle.records.proofs.Outcomes.{refuse-passed}
 use Rattle.days.specs.Days.{neighbours, dayWords, IsDay, LentDay, isDay}
 use Rattle.days.specs.Calls.{checkOf}
 use Rattle.days.proofs.Days.{day-length, neighbours-append, relation-day, day-head}
@@ -40,19 +39,12 @@ check-day n T ws e h d = rw (e, le-ltb _ _ h, day-in n T ws d)
 
 -- words that pass are a day's
 pub check-passed : (n T : ℕ) (ws : List ℕ) → checkOf n T ws ≡ success tt → LentDay n T ws
-check-passed n T ws e = limits (withinLimits n T) refl
-  where
-    day : withinLimits n T ≡ true → wordsFor n T ≤ length ws → (b : Bool) → isDay n T ws ≡ b → LentDay n T ws
-    day l h true f = record { limits = l; enough = h; day = day-of n T ws f }
-    day l h false f = absurd (refused-success (sym (check-broken n T ws l h (λ d. clash (day-in n T ws d) f)) ∙ e))
-
-    enough : withinLimits n T ≡ true → (b : Bool) → ltb (length ws) (wordsFor n T) ≡ b → LentDay n T ws
-    enough l true f = absurd (refused-success (sym (check-few n T ws l (ltb-true _ _ f)) ∙ e))
-    enough l false f = day l (ltb-false _ _ f) (isDay n T ws) refl
-
-    limits : (b : Bool) → withinLimits n T ≡ b → LentDay n T ws
-    limits true f = enough f (ltb (length ws) (wordsFor n T)) refl
-    limits false f = absurd (refused-success (sym (check-limits n T ws f) ∙ e))
+unfolding checkOf
+check-passed n T ws e =
+    let limits = refuse-passed _ _ _ _ e in
+    let enough = refuse-passed _ _ _ _ (limits .1) in
+    let day = refuse-passed _ _ _ _ (enough .1) in
+    record { limits = isnt-false _ (limits .0); enough = ltb-false _ _ (enough .0); day = day-of n T ws (isnt-false _ (day .0)) }
 
 -- words after the first n×T change nothing
 pub check-append : (n T : ℕ) (ws rest : List ℕ) → length ws ≡ wordsFor n T → checkOf n T (ws ++ rest) ≡ checkOf n T ws

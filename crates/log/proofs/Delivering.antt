@@ -1,5 +1,5 @@
 -- Laws of bytes that are laid over a buffer, and of an answer that is put into the buffer that is lent.
-use mathlib.Core.Path.{_≡_, refl, sym, ap, _∙_}
+use mathlib.Core.Path.{_≡_, refl, sym, ap, ap₂, _∙_}
 use mathlib.Core.Bool.{true}
 use mathlib.Core.List.{List, _++_, append-assoc}
 use Prim.Native.Nat.{ℕ, _+_, _≤_, _<_}
@@ -13,6 +13,8 @@ use Rattle.records.specs.Limits.{withinLimits, wordsFor}
 use Rattle.records.specs.Outcomes.{Outcome, refused, success, andThen}
 use Rattle.records.proofs.Outcomes.{refused-success, success-same}
 use Rattle.records.proofs.WithinLimits.{limits-of}
+use Rattle.days.specs.Calls.{checkOf}
+use Rattle.days.proofs.Checks.{check-rest}
 use Rattle.log.specs.Buffers.{Delivered, deliver, overwrite, place}
 use Rattle.log.specs.Writing.{Writable}
 
@@ -61,6 +63,11 @@ module _ {A : Type 0} (o : Outcome A) (further : A → Outcome (List ℕ)) (buff
   pub deliver-passed : (a : A) → o ≡ success a → deliver (andThen o further) buffer ≡ deliver (further a) buffer
   unfolding andThen
   deliver-passed a e = rw e
+
+-- what is judged after the check of words: words after the first n×T make no difference to the call where they make none to this
+pub deliver-rest : (n T : ℕ) (ws xs ys buffer : List ℕ) {o p : Outcome (List ℕ)} → length ws ≡ wordsFor n T → o ≡ p
+    → deliver (andThen (checkOf n T (ws ++ xs)) (λ x. o)) buffer ≡ deliver (andThen (checkOf n T (ws ++ ys)) (λ x. p)) buffer
+deliver-rest n T ws xs ys buffer e f = ap₂ (λ (c : Outcome (Unit {0})) (o : Outcome (List ℕ)). deliver (andThen c (λ x. o)) buffer) (check-rest n T ws xs ys e) f
 
 -- what a refusal leaves
 pub leaves-refused : {o : Outcome (List ℕ)} {number offset : ℕ} (buffer : List ℕ) → o ≡ refused number offset

@@ -1,5 +1,5 @@
 -- Theorems of core numbers: they are those of source 000, and the call's promise, as it stands in specs/CoreNumbers, holds.
-use mathlib.Core.Path.{_≡_, refl, sym, ap, ap₂, _∙_}
+use mathlib.Core.Path.{_≡_, refl, sym, ap, _∙_}
 use mathlib.Core.Bool.{Bool, true, false}
 use mathlib.Core.List.{List, _++_}
 use mathlib.Core.Logic.{_↔_}
@@ -13,17 +13,16 @@ use Rattle.sets.proofs.Bools.{clash}
 use Rattle.sets.proofs.Sets.{sub-refl}
 use Rattle.sets.proofs.Tables.{tabulate-length, tabulate-at, tabulate-same}
 use Rattle.records.specs.Limits.{wordsFor}
-use Rattle.records.specs.Outcomes.{Outcome, refused, success, andThen}
-use Rattle.days.proofs.Days.{neighbours-append}
-use Rattle.days.proofs.Checks.{check-day, check-rest}
+use Rattle.records.specs.Outcomes.{Outcome, refused, success}
+use Rattle.days.proofs.Checks.{check-day}
 use Rattle.log.specs.Buffers.{deliver}
-use Rattle.log.proofs.Delivering.{deliver-short, deliver-fits}
+use Rattle.log.proofs.Delivering.{deliver-rest, deliver-short, deliver-fits}
 use Rattle.cores.specs.Orders.{coreNumber}
 use Rattle.cores.proofs.Orders.{member-pos, number-by-sets, number-same}
 use Rattle.spans.specs.Spans.{isSpan, SpanOfDay, spanNeighbours}
 use Rattle.spans.specs.Contacts.{OfOrder}
 use Rattle.spans.proofs.OrderSets.{order-cohesive, cohesive-order}
-use Rattle.spans.proofs.SpanRows.{SameDay, fewer-head, span-in, span-of}
+use Rattle.spans.proofs.SpanRows.{SameDay, same-rest, fewer-head, span-in, span-of}
 use Rattle.groups.specs.Calls.{coreNumberBytes, spanJudged, coreNumbersOf}
 use Rattle.groups.proofs.NumbersCall.{judged-yes, judged-no, numbers-passed}
 use Rattle.promises.specs.CoreNumbers.{AreCoreNumbers, GivesCoreNumbers}
@@ -104,6 +103,4 @@ pub numbers-rest : (n T : ℕ) (ws xs ys : List ℕ) (first last : ℕ) (buffer 
     → coreNumbersOf n T (ws ++ xs) first last buffer ≡ coreNumbersOf n T (ws ++ ys) first last buffer
 unfolding coreNumbersOf
 numbers-rest n T ws xs ys first last buffer e =
-    ap (λ (o : Outcome (List ℕ)). deliver o buffer)
-    (ap₂ (λ (c : Outcome (Unit {0})) (b : Outcome (List ℕ)). andThen c (λ x. b)) (check-rest n T ws xs ys e)
-    (judged-head n T (ws ++ xs) (ws ++ ys) first last (λ t u h k. neighbours-append n T ws xs t u e h k ∙ sym (neighbours-append n T ws ys t u e h k))))
+    deliver-rest n T ws xs ys buffer e (judged-head n T (ws ++ xs) (ws ++ ys) first last (same-rest n T ws xs ys e))

@@ -13,10 +13,8 @@ use Rattle.sets.specs.Tables.{keepIf}
 use Rattle.sets.proofs.Bools.{and-left, and-right, all-same}
 use Rattle.sets.proofs.Concat.{concat-same}
 use Rattle.records.specs.Limits.{wordsFor}
-use Rattle.records.specs.Outcomes.{Outcome, success, refuseIf, andThen}
-use Rattle.days.proofs.Days.{neighbours-append}
-use Rattle.days.proofs.Checks.{check-rest}
-use Rattle.log.specs.Buffers.{deliver}
+use Rattle.records.specs.Outcomes.{success, refuseIf}
+use Rattle.log.proofs.Delivering.{deliver-rest}
 use Rattle.cores.proofs.Cores.{core-same}
 use Rattle.cores.proofs.Orders.{score-same}
 use Rattle.cuts.proofs.Cuttings.{Cuts, one, more, cuts-fit, to-cuts}
@@ -29,7 +27,7 @@ use Rattle.thresholds.specs.Ranges.{inRange}
 use Rattle.spans.specs.KeptGroups.{kept}
 use Rattle.spans.specs.Plans.{scoreOn, membersOn, partOn, partsFrom, partsOf, isQuery, isParts}
 use Rattle.spans.specs.Encoding.{reportBytes, planBytes}
-use Rattle.spans.proofs.SpanRows.{SameDay, fewer-head}
+use Rattle.spans.proofs.SpanRows.{SameDay, same-rest, fewer-head}
 use Rattle.groups.specs.Calls.{reportJudged, reportOf, planJudged, planOf}
 
 module _ (n T : ℕ) (xs ys : List ℕ) (f : SameDay n T xs ys) where
@@ -102,14 +100,10 @@ pub report-rest : (n T : ℕ) (ws xs ys : List ℕ) (least : Thresholds) (buffer
     → reportOf n T (ws ++ xs) least buffer ≡ reportOf n T (ws ++ ys) least buffer
 unfolding reportOf reportJudged
 report-rest n T ws xs ys least buffer e =
-    ap (λ (o : Outcome (List ℕ)). deliver o buffer)
-    (ap₂ (λ (c : Outcome (Unit {0})) (b : List SpanCore). andThen c (λ x. refuseIf (isnt (inRange least)) 17 0 (success (reportBytes n T (kept least b))))) (check-rest n T ws xs ys e)
-    (groups-head n T (ws ++ xs) (ws ++ ys) (λ t u h k. neighbours-append n T ws xs t u e h k ∙ sym (neighbours-append n T ws ys t u e h k))))
+    deliver-rest n T ws xs ys buffer e
+    (ap (λ (cs : List SpanCore). refuseIf (isnt (inRange least)) 17 0 (success (reportBytes n T (kept least cs)))) (groups-head n T (ws ++ xs) (ws ++ ys) (same-rest n T ws xs ys e)))
 
 -- Nor to the plan.
 pub plan-rest : (n T : ℕ) (ws xs ys : List ℕ) (query h : ℕ) (buffer : List ℕ) → length ws ≡ wordsFor n T → planOf n T (ws ++ xs) query h buffer ≡ planOf n T (ws ++ ys) query h buffer
 unfolding planOf
-plan-rest n T ws xs ys query h buffer e =
-    ap (λ (o : Outcome (List ℕ)). deliver o buffer)
-    (ap₂ (λ (c : Outcome (Unit {0})) (b : Outcome (List ℕ)). andThen c (λ x. b)) (check-rest n T ws xs ys e)
-    (judged-head n T (ws ++ xs) (ws ++ ys) (λ t u h k. neighbours-append n T ws xs t u e h k ∙ sym (neighbours-append n T ws ys t u e h k)) query h))
+plan-rest n T ws xs ys query h buffer e = deliver-rest n T ws xs ys buffer e (judged-head n T (ws ++ xs) (ws ++ ys) (same-rest n T ws xs ys e) query h)

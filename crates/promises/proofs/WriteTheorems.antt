@@ -12,7 +12,7 @@ use Rattle.sets.specs.Sets.{In}
 use Rattle.sets.proofs.Sets.{in-lt}
 use Rattle.records.specs.declared.record.Record.{Record}
 use Rattle.records.specs.Limits.{maxContacts, wordsFor}
-use Rattle.records.specs.Outcomes.{Outcome, refused, success, andThen}
+use Rattle.records.specs.Outcomes.{refused, success}
 use Rattle.records.specs.Meaning.{inContact}
 use Rattle.records.specs.Verdicts.{Values}
 use Rattle.records.specs.Logs.{Mem, logRecords, IsLog, Met}
@@ -21,13 +21,13 @@ use Rattle.records.proofs.Theorems.{met-in, met-of}
 use Rattle.days.specs.Days.{neighbours, adjacent, dayWords}
 use Rattle.days.specs.Calls.{readOf, checkOf}
 use Rattle.days.proofs.Days.{neighbours-take, day-by}
-use Rattle.days.proofs.Checks.{check-day, check-rest}
+use Rattle.days.proofs.Checks.{check-day}
 use Rattle.days.proofs.ReadCall.{left}
 use Rattle.log.specs.Tidy.{IsTidy, tidyContacts, tidyLog}
 use Rattle.log.specs.Buffers.{deliver}
 use Rattle.log.specs.Calls.{writeJudged, writeOf}
 use Rattle.log.proofs.TidyForm.{tidy-form, tidy-same, tidy-unique, tidy-meet, tidy-valid, tidy-met-in, tidy-met-of}
-use Rattle.log.proofs.Delivering.{deliver-short, deliver-fits}
+use Rattle.log.proofs.Delivering.{deliver-rest, deliver-short, deliver-fits}
 use Rattle.log.proofs.TidyCall as log
 use Rattle.log.proofs.TidyCall.{adjacent-append, write-few}
 use Rattle.promises.specs.WrittenDays.{HasRuns, logBytes, Writes}
@@ -102,7 +102,7 @@ writes = record {
 -- Words after the first n×T make no difference.
 pub write-rest : (n T : ℕ) (ws xs ys buffer : List ℕ) → length ws ≡ wordsFor n T → writeOf n T (ws ++ xs) buffer ≡ writeOf n T (ws ++ ys) buffer
 unfolding writeOf writeJudged tidyLog
-write-rest n T ws xs ys buffer e = ap (λ (o : Outcome (List ℕ)). deliver o buffer) (ap₂ (λ (c : Outcome (Unit {0})) (b : Outcome (List ℕ)). andThen c (λ x. b)) (check-rest n T ws xs ys e) (rw (tidy-same n T _ _ same) refl))
+write-rest n T ws xs ys buffer e = deliver-rest n T ws xs ys buffer e (rw (tidy-same n T _ _ same) refl)
   where
     same : (t u v : ℕ) → t < T → u < n → v < n → adjacent n (ws ++ xs) t u v ≡ adjacent n (ws ++ ys) t u v
     same t u v a b c = adjacent-append n T ws xs t u v e a b ∙ sym (adjacent-append n T ws ys t u v e a b)

@@ -1,8 +1,8 @@
 -- Laws of spans and their rows: which ticks make a span; a pair is joined exactly when it is in contact in every tick of the span, so a longer
 -- span has fewer pairs.
-use mathlib.Core.Path.{_≡_, _∙_}
+use mathlib.Core.Path.{_≡_, sym, _∙_}
 use mathlib.Core.Bool.{true}
-use mathlib.Core.List.{List}
+use mathlib.Core.List.{List, _++_}
 use mathlib.Core.Logic.{⊎-elim, by-cases}
 use Prim.Native.Nat.{ℕ, suc, _≤_, _<_, suc-le-suc}
 use native.Mathlib.Decide.{decLt}
@@ -16,7 +16,9 @@ use Rattle.sets.specs.Members.{capacity}
 use Rattle.sets.proofs.Bools.{and-in, and-left, and-right, or-left, or-right, or-of, all-in, all-of}
 use Rattle.sets.proofs.Sets.{in-test, has-test, in-set, of-set, of-set-lt, in-full, of-full}
 use Rattle.sets.proofs.Tables.{tabulate-length, tabulate-at, piecewise-in, piecewise-out}
+use Rattle.records.specs.Limits.{wordsFor}
 use Rattle.days.specs.Days.{neighbours, adjacent}
+use Rattle.days.proofs.Days.{neighbours-append}
 use Rattle.cores.proofs.Degrees.{FewerPairs}
 use Rattle.spans.specs.Spans.{isSpan, throughout, spanNeighbours, spanRows}
 
@@ -71,13 +73,17 @@ span-fewer n ws s first last first′ last′ l r = record {
 abbrev pub SameDay : ℕ → ℕ → List ℕ → List ℕ → Type 0
 SameDay n T xs ys = (t u : ℕ) → t < T → u < n → neighbours n xs t u ≡ neighbours n ys t u
 
--- have the same pairs on every span of the day,
+-- have the same pairs on every span of the day
 pub fewer-head : (n T : ℕ) (xs ys : List ℕ) (first last : ℕ) → last < T → SameDay n T xs ys → FewerPairs (full n) (spanNeighbours n xs first last) (spanNeighbours n ys first last)
 fewer-head n T xs ys first last h f = record {
   pair = λ u v i j k.
       let r = of-span n xs first last u v k in
       in-span n ys first last u v (r .0) (λ t p q. rw (f t u (omega arith) (of-full n u i)) at (r .1 t p q));
 }
+
+-- words that differ only after the first n×T are such
+pub same-rest : (n T : ℕ) (ws xs ys : List ℕ) → length ws ≡ wordsFor n T → SameDay n T (ws ++ xs) (ws ++ ys)
+same-rest n T ws xs ys e t u h k = neighbours-append n T ws xs t u e h k ∙ sym (neighbours-append n T ws ys t u e h k)
 
 -- the rows of a span: as many as a set can hold badges, the neighbours of each badge below n, and nothing from n up
 pub span-length : (n : ℕ) (ws : List ℕ) (first last : ℕ) → length (spanRows n ws first last) ≡ capacity

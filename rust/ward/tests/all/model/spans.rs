@@ -82,11 +82,7 @@ impl Cores {
             let mut next = vec![None; self.ticks + 1];
             for (end, found) in next.iter_mut().enumerate().skip(1) {
                 let cut = |start: usize| best[start].as_ref().map(|(sum, ends)| (sum + scores[end - 1][start], Reverse(ends)));
-                let (sum, Reverse(ends)) = match (0..end).filter_map(cut).max() {
-                    Some(greatest) => greatest,
-                    None => continue,
-                };
-                *found = Some((sum, [&ends[..], &[end - 1]].concat()));
+                *found = (0..end).filter_map(cut).max().map(|(sum, Reverse(ends))| (sum, [&ends[..], &[end - 1]].concat()));
             }
             best = next;
         }
