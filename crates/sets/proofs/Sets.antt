@@ -11,7 +11,8 @@ use lib.Arith.{bin-ind, digits-div, digits-mod, lt-one}
 use borrow.Author.Tests.{eqb-true, eqb-false, eq-eqb, lt-ltb, le-ltb}
 use Rattle.sets.specs.Sets.{bit, In, has, Sub, isSub, intersection, union, difference, only, digit, setOf, filterIn, filter, full}
 use Rattle.sets.specs.Members.{capacity, insert}
-use Rattle.sets.proofs.Bools.{clash}
+use Rattle.sets.specs.Bools.{_and_, _or_}
+use Rattle.sets.proofs.Bools.{clash, same-test, to-false, and-in, and-left, and-right, or-left, or-right, or-of}
 use Rattle.sets.proofs.Bits.{bit-lt, bit-zero, bit-suc, bit-none, bit-and, bit-or, bit-sub}
 
 -- the test for membership passes exactly when the badge is a member
@@ -268,6 +269,26 @@ module _ (n : ℕ) (p : ℕ → Bool) where
       back : (u : ℕ) → In (setOf (n + 1) p) u → In (setOf n p) u ⊎ (u ≡ n) → In (setOf n p) u
       back u i (inl j) = j
       back u i (inr f) = absurd (clash (of-set (n + 1) p u i) (rw f e))
+
+-- the tests for members of the empty set, of a union and of an intersection
+pub has-none : (u : ℕ) → has 0 u ≡ false
+has-none u = to-false _ (λ e. not-in-none u (in-test 0 u e))
+
+pub has-union : (s t u : ℕ) → has (union s t) u ≡ (has s u or has t u)
+has-union s t u = same-test _ _ (λ e. to (of-union s t u (in-test _ u e))) (λ e. back (or-of _ _ e))
+  where
+    to : In s u ⊎ In t u → (has s u or has t u) ≡ true
+    to (inl i) = or-left _ _ (has-test s u i)
+    to (inr i) = or-right _ _ (has-test t u i)
+
+    back : (has s u ≡ true) ⊎ (has t u ≡ true) → has (union s t) u ≡ true
+    back (inl e) = has-test _ u (in-union-left s t u (in-test s u e))
+    back (inr e) = has-test _ u (in-union-right s t u (in-test t u e))
+
+pub has-intersection : (s t u : ℕ) → has (intersection s t) u ≡ (has s u and has t u)
+has-intersection s t u = same-test _ _
+    (λ e. let i = in-test _ u e in and-in _ _ (has-test s u (of-intersection-left s t u i)) (has-test t u (of-intersection-right s t u i)))
+    (λ e. has-test _ u (in-intersection s t u (in-test s u (and-left _ _ e)) (in-test t u (and-right _ _ e))))
 
 -- the test for a subset passes exactly when every member is a member of the other set
 pub is-sub-in : {s t : ℕ} → Sub s t → isSub s t ≡ true

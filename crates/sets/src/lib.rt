@@ -4,7 +4,7 @@ mod widening;
 ghost use mathlib.Core.Path.{_≡_};
 ghost use Prim.Native.Nat.{_-_, min};
 ghost use lib.Dec.{eqb};
-ghost use Rattle.sets.specs.Sets.{has, isSub, intersection, difference, only, full, size, smallest};
+ghost use Rattle.sets.specs.Sets.{has, isSub, intersection, union, difference, only, full, size, smallest};
 ghost use Rattle.sets.specs.Members.{members, capacity, insert};
 pub use widening::widen;
 
@@ -81,6 +81,15 @@ impl BadgeSet {
     {
         BadgeSet {
             bits: self.bits & other.bits,
+        }
+    }
+
+    // The badges in one of the sets or both.
+    pub fn union(self, other: BadgeSet) -> BadgeSet
+        ensures { λ r. ⌜ members r ≡ union (members self) (members other) ⌝ }
+    {
+        BadgeSet {
+            bits: self.bits | other.bits,
         }
     }
 
