@@ -59,6 +59,19 @@ unfolding verdictOf
 verdict-refused (refused k p) number offset e = refused-same e
 verdict-refused (success rs) number offset e = absurd (refused-success (sym e))
 
+pub record Valued (o : Outcome (List Record)) (n T : ℕ) : Type 0 where
+  pub records : List Record
+  pub accepted : o ≡ success records
+  pub badges : badgesOf records ≡ n
+  pub ticks : ticksOf records ≡ T
+
+pub valued : (o : Outcome (List Record)) (n T m : ℕ) → verdictOf o ≡ success (record { badges = n; ticks = T; contacts = m }) → Valued o n T
+unfolding verdictOf valuesOf
+valued (refused number offset) n T m e = absurd (refused-success e)
+valued (success rs) n T m e =
+    let s = success-same e in
+    record { records = rs; accepted = refl; badges = ap (λ (v : Values). v .badges) s; ticks = ap (λ (v : Values). v .ticks) s }
+
 -- an accepted log, with its values
 pub record Told (log : List ℕ) (n T m : ℕ) : Type 0 where
   pub accepts : Accepts log n T

@@ -15,12 +15,11 @@ use records::kind_of;
 use records::size_of;
 use sets::BadgeSet;
 
-// The first count words are zero.
-fn clear(words: &mut [u64], count: usize)
-    requires { ⌜ count ≤ length (now words) ⌝ }
-    ensures { λ _. ⌜ now (words .exit) ≡ replicate count 0 ++ drop count (now (words .entry)) ⌝ }
+// All words are zero.
+pub fn clear(words: &mut [u64])
+    ensures { λ _. ⌜ now (words .exit) ≡ replicate (length (now (words .entry))) 0 ⌝ }
 {
-    for i in 0..count {
+    for i in 0..words.len() {
         words[i] = 0;
     }
 }
@@ -70,7 +69,7 @@ pub(crate) fn fill(log: &[u8], badges: usize, ticks: usize, words: &mut [u64])
     requires { ⌜ Accepts (now log) badges ticks × (wordsFor badges ticks ≤ length (now words)) ⌝ }
     ensures { λ _. ⌜ ((rs : List Record) → judge (now (log .entry)) ≡ success rs → now (words .exit) ≡ dayOf rs ++ drop (wordsFor badges ticks) (now (words .entry))) ⌝ }
 {
-    clear(words, ticks * badges);
+    clear(&mut words[..ticks * badges]);
     let mut at: usize = 0;
     while at < log.len() {
         let Decoded::Whole(record) = decode(&log[at..]) else {

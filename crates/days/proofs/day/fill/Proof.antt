@@ -3,7 +3,8 @@ use mathlib.Core.Path.{_≡_, refl, sym, ap, _∙_, subst}
 use mathlib.Core.List.{List, _++_}
 use Prim.Native.Nat.{ℕ, _+_, _-_, _≤_}
 use native.Mathlib.Omega.{arith}
-use lib.ListN.{length, drop}
+use lib.ListN.{length, drop, replicate}
+use lib.Seq.{length-take-le}
 use borrow.Author.Needs.{needs}
 use Rattle.sets.specs.Bytes.{Bytes}
 use Rattle.records.specs.Limits.{wordsFor}
@@ -27,8 +28,16 @@ abbrev μ-loop : tie.MeasureT-loop
 bytes : (c : tie.After-shared-slice-known Inv-loop μ-loop) → Bytes (c .before .args .log .now)
 bytes c = record { at = λ i l. omega (arith, c .shared-slice-known .given i) }
 
+-- the words before the loop: the first n×T are zero
+cleared : (c : tie.After-clear Inv-loop μ-loop) → let a = c .before .before .before .before .args in
+    c .clear .last .0 ++ drop (wordsFor (a .badges) (a .ticks)) (a .words .now) ≡ replicate (wordsFor (a .badges) (a .ticks)) 0 ++ drop (wordsFor (a .badges) (a .ticks)) (a .words .now)
+cleared c =
+    let a = c .before .before .before .before .args in
+    ap (λ (x : List ℕ). x ++ drop (wordsFor (a .badges) (a .ticks)) (a .words .now))
+    (c .clear .ensures ∙ ap (λ (k : ℕ). replicate k 0) (length-take-le (wordsFor (a .badges) (a .ticks)) (a .words .now) (c .before .before .before .before .pre .1)))
+
 -- the record that a turn finds
-finds : (c : tie.In-loop Inv-loop μ-loop) → Found (c .before .before .before .before .before .before .before .before .args .log .now) (c .before .before .before .before .before .before .before .before .args .badges) (c .before .before .before .before .before .before .before .before .args .ticks) (c .before .loop .at) (drop (wordsFor (c .before .before .before .before .before .before .before .before .args .badges) (c .before .before .before .before .before .before .before .before .args .ticks)) (c .before .before .before .before .clear .last .0)) (c .before .loop .words)
+finds : (c : tie.In-loop Inv-loop μ-loop) → Found (c .before .before .before .before .before .before .before .before .args .log .now) (c .before .before .before .before .before .before .before .before .args .badges) (c .before .before .before .before .before .before .before .before .args .ticks) (c .before .loop .at) (drop (wordsFor (c .before .before .before .before .before .before .before .before .args .badges) (c .before .before .before .before .before .before .before .before .args .ticks)) (c .before .before .before .before .clear .last .0 ++ drop (wordsFor (c .before .before .before .before .before .before .before .before .args .badges) (c .before .before .before .before .before .before .before .before .args .ticks)) (c .before .before .before .before .before .before .before .before .args .words .now))) (c .before .loop .words)
 finds c = found _ _ _ _ _ _ (c .before .loop .inv .1) (c .loop-test .taken)
 
 is-whole : (c : tie.After-decode Inv-loop μ-loop) → c .decode .result ≡ d.Whole (finds (c .before .before) .r)
@@ -40,11 +49,17 @@ same-record c = whole-part (sym (is-whole (c .before .before)) ∙ c .«record»
 mul-clear : tie.Need-mul-clear Inv-loop μ-loop
 mul-clear c = search needs
 
+slice-relend-prefix-clear : tie.Need-slice-relend-prefix-clear Inv-loop μ-loop
+slice-relend-prefix-clear c = search needs
+
+slice-aggregate-clear : tie.Need-slice-aggregate-clear Inv-loop μ-loop
+slice-aggregate-clear c = sym (length-take-le _ _ (c .before .before .before .pre .1))
+
 clear-requires : tie.Need-clear-requires Inv-loop μ-loop
 clear-requires c κs = search needs
 
 loop-holds : tie.Need-loop-holds Inv-loop μ-loop
-loop-holds c = (refl, filling-start _ _ _ _ _ (bytes (c .before .before .before .before .before)) (c .before .before .before .before .before .before .pre .0) (c .before .before .clear .ensures))
+loop-holds c = (refl, filling-start _ _ _ _ _ (bytes (c .before .before .before .before .before)) (c .before .before .before .before .before .before .pre .0) (cleared (c .before .before)))
 
 sub-decode : tie.Need-sub-decode Inv-loop μ-loop
 sub-decode c = search needs
@@ -99,7 +114,7 @@ same-length-2 : tie.Need-same-length-2 Inv-loop μ-loop
 same-length-2 c = search needs
 
 returns-2 : tie.Need-returns-2 Inv-loop μ-loop
-returns-2 c = λ rs e. filling-done _ _ _ _ _ _ (c .before .before .before .before .before .before .before .before .pre .0) (c .before .loop .inv .1) (c .loop-test .left) rs e ∙ ap (λ (x : List ℕ). dayOf rs ++ x) (cleared-rest (wordsFor (c .before .before .before .before .before .before .before .before .args .badges) (c .before .before .before .before .before .before .before .before .args .ticks)) _ _ (c .before .before .before .before .clear .ensures))
+returns-2 c = λ rs e. filling-done _ _ _ _ _ _ (c .before .before .before .before .before .before .before .before .pre .0) (c .before .loop .inv .1) (c .loop-test .left) rs e ∙ ap (λ (x : List ℕ). dayOf rs ++ x) (cleared-rest (wordsFor (c .before .before .before .before .before .before .before .before .args .badges) (c .before .before .before .before .before .before .before .before .args .ticks)) _ _ (cleared (c .before .before .before .before)))
 
 pub fill-spec : {M : Type 1} → statement M
 fill-spec =
@@ -108,6 +123,8 @@ fill-spec =
     Inv-loop
     μ-loop
     mul-clear
+    slice-relend-prefix-clear
+    slice-aggregate-clear
     clear-requires
     loop-holds
     sub-decode
