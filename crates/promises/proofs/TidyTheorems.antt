@@ -14,7 +14,7 @@ use Rattle.records.specs.Limits.{wordsFor}
 use Rattle.records.specs.Outcomes.{Outcome, refused, success}
 use Rattle.records.specs.Judging.{judge}
 use Rattle.records.specs.Meaning.{badgesOf, ticksOf, inContact}
-use Rattle.records.specs.Logs.{logRecords, IsLog}
+use Rattle.records.specs.Logs.{logRecords, IsLog, Met}
 use Rattle.records.proofs.Outcomes.{refused-success, success-same}
 use Rattle.records.proofs.Meaning.{contact-swap}
 use Rattle.records.proofs.Theorems.{log-accepted, met-in, met-of, met-below, met-apart}
@@ -118,7 +118,7 @@ module _ (log : List ℕ) (n T : ℕ) (cts : List Record) (l : IsLog log n T cts
     unfolding logRecords badgesOf ticksOf
     tidy-bytes = before9-enough log work (logRecords n T cts) (log-accepted log n T cts l) h ∙ ap success (sym (tidied-is log n T cts l))
 
-    holds : HoldsDay n T cts work (readOf log work .words)
+    holds : HoldsDay n T (Met cts) work (readOf log work .words)
     holds = reads log work n T cts l h .day
 
     module _ (buffer : List ℕ) where

@@ -12,10 +12,10 @@ use Rattle.records.specs.Logs.{IsLog, Met}
 use Rattle.days.specs.Days.{neighbours}
 use Rattle.days.specs.Calls.{Read}
 
--- Words that hold the day of a log's contacts: bit v of word t×n+u is set exactly when u and v are in contact in tick t; the words
--- after the first n×T are as they were lent.
-pub record HoldsDay (n T : ℕ) (cts : List Record) (lent words : List ℕ) : Type 0 where
-  pub marks : (t u v : ℕ) → t < T → u < n → In (neighbours n words t u) v ↔ Met cts t u v
+-- Words that hold a day of contacts: bit v of word t×n+u is set exactly when u and v are in contact in tick t; the words after the first
+-- n×T are as they were lent.
+pub record HoldsDay (n T : ℕ) (InContact : ℕ → ℕ → ℕ → Type 0) (lent words : List ℕ) : Type 0 where
+  pub marks : (t u v : ℕ) → t < T → u < n → In (neighbours n words t u) v ↔ InContact t u v
   pub keeps : drop (wordsFor n T) words ≡ drop (wordsFor n T) lent
   pub long : length words ≡ length lent
 
@@ -23,7 +23,7 @@ pub record HoldsDay (n T : ℕ) (cts : List Record) (lent words : List ℕ) : Ty
 -- records, and the words hold the day.
 pub record HasRead (n T : ℕ) (cts : List Record) (lent : List ℕ) (left : Read) : Type 0 where
   pub answers : left .answer ≡ success (record { badges = n; ticks = T; contacts = length cts })
-  pub day : HoldsDay n T cts lent (left .words)
+  pub day : HoldsDay n T (Met cts) lent (left .words)
 
 -- a call that reads every log, lent n×T words or more
 abbrev pub Reads : (List ℕ → List ℕ → Read) → Type 0

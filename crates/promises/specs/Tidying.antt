@@ -27,20 +27,20 @@ pub record SameMeaning (n T : ℕ) (cts : List Record) (n′ T′ : ℕ) (cts′
 pub record HasTidied (n T : ℕ) (cts : List Record) (bytes work buffer : List ℕ) (left : Tidied) : Type 0 where
   pub answers : left .answer ≡ success (length bytes)
   pub writes : left .buffer ≡ bytes ++ drop (length bytes) buffer
-  pub day : HoldsDay n T cts work (left .words)
+  pub day : HoldsDay n T (Met cts) work (left .words)
 
 -- What a call leaves whose buffer is too short: 9, the buffer as it was, and the day in the work words.
 pub record FoundShort (n T : ℕ) (cts : List Record) (work buffer : List ℕ) (left : Tidied) : Type 0 where
   pub answers : left .answer ≡ refused 9 0
   pub writes : left .buffer ≡ buffer
-  pub day : HoldsDay n T cts work (left .words)
+  pub day : HoldsDay n T (Met cts) work (left .words)
 
 -- What a call leaves that has read bytes which say the same as a log: n and T, and the words that reading the log itself leaves, in which
 -- just the log's pairs are in contact.
 pub record Recovers (read : List ℕ → List ℕ → Read) (n T : ℕ) (cts : List Record) (log bytes lent : List ℕ) : Type 0 where
   pub contacts : ℕ
   pub answers : read bytes lent .answer ≡ success (record { badges = n; ticks = T; contacts = contacts })
-  pub day : HoldsDay n T cts lent (read bytes lent .words)
+  pub day : HoldsDay n T (Met cts) lent (read bytes lent .words)
   pub same : read bytes lent .words ≡ read log lent .words
 
 -- The tidy log of a log: a log of the unbroken runs of its pairs, in order; no more contact records than came in.
