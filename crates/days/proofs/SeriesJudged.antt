@@ -4,13 +4,12 @@ use mathlib.Core.Bool.{true, false}
 use mathlib.Core.List.{List, [], _∷_, List·Memᴰ, List·Memᴰ·head, List·Memᴰ·tail, List·Memᴰ·not-nil}
 use Prim.Native.Nat.{ℕ, suc, _+_, _≤_, _<_}
 use native.Mathlib.Omega.{arith}
-use lib.Dec.{ltb}
 use lib.ListN.{length, drop}
 use borrow.Author.Tests.{eqb-true, eq-eqb, ltb-false, lt-ltb, le-ltb}
 use Rattle.sets.specs.Bools.{_and_, _or_, isnt}
 use Rattle.sets.proofs.Bools.{and-in, and-left, and-right, or-neither, isnt-false}
 use Rattle.records.specs.declared.record.Record.{Record}
-use Rattle.records.specs.Outcomes.{Outcome, refused, success, refuseIf, andThen}
+use Rattle.records.specs.Outcomes.{refused, success, refuseIf, andThen}
 use Rattle.records.specs.Judging.{start, judgeFrom}
 use Rattle.records.proofs.Outcomes.{success-same, refuse-passed, then-passed}
 use Rattle.records.proofs.Accepting.{Accepted, accepted-of}

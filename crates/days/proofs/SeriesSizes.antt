@@ -1,5 +1,5 @@
 -- Laws of the sizes that the program keeps of a series: those of the first log, and whether the others have them.
-use mathlib.Core.Path.{_≡_, refl, sym}
+use mathlib.Core.Path.{_≡_, refl}
 use mathlib.Core.Bool.{true, false}
 use mathlib.Core.List.{List, [], _∷_, _++_, List·Memᴰ, List·Memᴰ·head, List·Memᴰ·tail, List·Memᴰ·append-cases, Memᴰ·append-left}
 use mathlib.Core.Logic.{_⊎_, inl, inr}

@@ -12,7 +12,7 @@ use borrow.Author.Tests.{eqb-true, eqb-false, eq-eqb, lt-ltb, le-ltb}
 use Rattle.sets.specs.Sets.{bit, In, has, Sub, isSub, intersection, union, difference, only, digit, setOf, filterIn, filter, full}
 use Rattle.sets.specs.Members.{capacity, insert}
 use Rattle.sets.specs.Bools.{_and_, _or_}
-use Rattle.sets.proofs.Bools.{clash, same-test, to-false, and-in, and-left, and-right, or-left, or-right, or-of}
+use Rattle.sets.proofs.Bools.{clash, same-test, and-in, and-left, and-right, or-left, or-right, or-of}
 use Rattle.sets.proofs.Bits.{bit-lt, bit-zero, bit-suc, bit-none, bit-and, bit-or, bit-sub}
 
 -- the test for membership passes exactly when the badge is a member
@@ -270,10 +270,7 @@ module _ (n : ℕ) (p : ℕ → Bool) where
       back u i (inl j) = j
       back u i (inr f) = absurd (clash (of-set (n + 1) p u i) (rw f e))
 
--- the tests for members of the empty set, of a union and of an intersection
-pub has-none : (u : ℕ) → has 0 u ≡ false
-has-none u = to-false _ (λ e. not-in-none u (in-test 0 u e))
-
+-- the tests for members of a union and of an intersection
 pub has-union : (s t u : ℕ) → has (union s t) u ≡ (has s u or has t u)
 has-union s t u = same-test _ _ (λ e. to (of-union s t u (in-test _ u e))) (λ e. back (or-of _ _ e))
   where
