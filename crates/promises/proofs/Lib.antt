@@ -24,3 +24,8 @@ pub mod PlanSubstitutes
 pub mod PlanOrders
 -- the number that no refusal has
 pub mod UnusedNumber
+-- joining: laws of quorums, its promise proved, what the promise comes to, and substitutes
+pub mod Quorums
+pub mod JoinTheorems
+pub mod JoinLaws
+pub mod JoinSubstitutes

@@ -1,5 +1,6 @@
--- What reading, tidying, writing and core numbers promise, over any call: what a reader has to believe. Laws are in proofs/.
+-- What reading, joining, tidying, writing and core numbers promise, over any call: what a reader has to believe. Laws are in proofs/.
 pub mod Reading
+pub mod Joining
 pub mod Tidying
 pub mod WrittenDays
 pub mod CoreNumbers
