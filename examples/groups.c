@@ -5,28 +5,8 @@
 #include <stdio.h>
 #include <stdlib.h>
 
+#include "show.h"
 #include "ward.h"
-
-/* A record of a report or a plan has 13 bytes: a mark of two, an order or score, first and last tick, and members in eight. */
-static void print_records(const char *what, const uint8_t *bytes, size_t header, size_t size) {
-    for (size_t at = header; at + 6 < size; at += 13) {
-        uint64_t members = 0;
-        for (int i = 7; i >= 0; i--)
-            members = members * 256 + bytes[at + 5 + i];
-        printf("%s %d ticks %d to %d badges", what, bytes[at + 2], bytes[at + 3], bytes[at + 4]);
-        for (int u = 0; u < 64; u++)
-            if (members >> u & 1)
-                printf(" %d", u);
-        printf("\n");
-    }
-}
-
-static void check(const uint64_t answer[5]) {
-    if (answer[WARD_NUMBER] != WARD_SUCCESS) {
-        printf("refused %d at %d\n", (int)answer[WARD_NUMBER], (int)answer[WARD_OFFSET]);
-        exit(1);
-    }
-}
 
 int main(int argc, char **argv) {
     static uint8_t log[WARD_LOG_BYTES + 1], report[WARD_REPORT_BYTES], plan[WARD_PLAN_BYTES];
@@ -36,13 +16,7 @@ int main(int argc, char **argv) {
         fprintf(stderr, "usage: groups LOG BADGE PARTS\n");
         return 2;
     }
-    FILE *file = fopen(argv[1], "rb");
-    if (file == NULL) {
-        perror(argv[1]);
-        return 2;
-    }
-    size_t size = fread(log, 1, sizeof log, file);
-    fclose(file);
+    size_t size = read_file(argv[1], log, sizeof log);
 
     ward_read(log, size, words, WARD_WORDS, answer);
     check(answer);

@@ -11,13 +11,13 @@
  *   - memory that is written overlaps no other memory of the same call;
  *   - `answer` points to five numbers.
  *
- * A call uses the caller's stack, as it was measured (tests/stack-use.sh) and not proved: ward_read under 1 KB, ward_core_numbers 3, ward_plan
- * 31, ward_write 49, ward_tidy 49, ward_report 62.
+ * A call uses the caller's stack, as it was measured (tests/stack-use.sh) and not proved: ward_read and ward_join under 1 KB, ward_core_numbers 3,
+ * ward_plan 31, ward_write 49, ward_tidy 49, ward_report 62.
  *
  * Every call writes all five numbers of `answer`. On a refusal the first is its number and the second its byte offset, and the others are
  * 0; a refused call changes nothing else, except that ward_tidy refused by WARD_BUFFER_TOO_SHORT leaves the day in its work words. On
- * success the first two are 0; badges and ticks are what ward_read found, else 0; count is the number of contact records for ward_read,
- * and the number of bytes written for the others. Memory after the answer is unchanged. */
+ * success the first two are 0; badges and ticks are what ward_read or ward_join found, else 0; count is the number of contact records for
+ * ward_read, 0 for ward_join, and the number of bytes written for the others. Memory after the answer is unchanged. */
 #ifndef WARD_H
 #define WARD_H
 
@@ -28,8 +28,9 @@
 extern "C" {
 #endif
 
-/* Sizes that always suffice: words of a day, bytes of a log, of a report and of a plan, core numbers of a span. */
+/* Sizes that always suffice: words of a day, work words of ward_join, bytes of a log, of a report and of a plan, core numbers of a span. */
 #define WARD_WORDS 6144
+#define WARD_JOIN_WORK_WORDS (4 * WARD_WORDS)
 #define WARD_LOG_BYTES 48010
 #define WARD_REPORT_BYTES 60538
 #define WARD_PLAN_BYTES 1267
@@ -44,31 +45,43 @@ enum {
     WARD_COUNT = 4
 };
 
-/* The refusals, by number. The offset is the start of the refused record for 1 to 6, of the first extra byte for 7, and 0 otherwise. 16 is
- * unused: it was ward_tidy's for a tidy log that is too long, which no log can bring about, and no other refusal will ever get it. */
+/* The refusals, by number. The offset is the start of the refused record for 1 to 6, of the first extra byte for 7, and 0 otherwise; for
+ * ward_join it counts from the start of the first log. 16 is unused: it was ward_tidy's for a tidy log that is too long, which no log can bring
+ * about, and no other refusal will ever get it. */
 enum {
     WARD_SUCCESS = 0,
-    WARD_CUT_SHORT = 1,              /* the bytes end inside a record, or where one must start */
-    WARD_WRONG_MARK = 2,             /* not BH for the first record, or not CT or ED later */
-    WARD_HEADER_OUT_OF_LIMITS = 3,   /* badges not 1 to 64, or ticks not 1 to 96, in a log */
-    WARD_INVALID_CONTACT = 4,        /* equal badges, a badge or tick that the day does not have, first after last */
-    WARD_TOO_MANY_CONTACTS = 5,      /* contact record number 8,001 */
-    WARD_WRONG_COUNT = 6,            /* the end's count differs */
-    WARD_TRAILING_BYTES = 7,         /* bytes follow the end */
-    WARD_TOO_FEW_WORDS = 8,          /* fewer than badges times ticks words lent */
-    WARD_BUFFER_TOO_SHORT = 9,       /* the result buffer is shorter than the exact answer */
-    WARD_SIZE_OUT_OF_LIMITS = 10,    /* badges or ticks, handed over, out of limits */
-    WARD_NOT_A_DAY = 11,             /* the words are no day: a badge in contact with itself, with one that is not there, or one-sided */
-    WARD_INVALID_SPAN = 12,          /* first after last, or last not a tick of the day */
-    WARD_FOREIGN_QUERY = 13,         /* the query has a badge that the day does not have */
-    WARD_INVALID_PARTS = 14,         /* no parts, or more than there are ticks */
-    WARD_WRITE_TOO_MANY = 15,        /* the tidy log would need more than 8,000 contact records */
-    WARD_THRESHOLD_OUT_OF_RANGE = 17 /* least ticks not 1 to 96, least order not 1 to 63, or least members not 2 to 64 */
+    WARD_CUT_SHORT = 1,               /* the bytes end inside a record, or where one must start */
+    WARD_WRONG_MARK = 2,              /* not BH for the first record, or not CT or ED later */
+    WARD_HEADER_OUT_OF_LIMITS = 3,    /* badges not 1 to 64, or ticks not 1 to 96, in a log */
+    WARD_INVALID_CONTACT = 4,         /* equal badges, a badge or tick that the day does not have, first after last */
+    WARD_TOO_MANY_CONTACTS = 5,       /* contact record number 8,001 */
+    WARD_WRONG_COUNT = 6,             /* the end's count differs */
+    WARD_TRAILING_BYTES = 7,          /* bytes follow the end */
+    WARD_TOO_FEW_WORDS = 8,           /* fewer than badges times ticks words lent; to ward_join, also fewer work words than that for each log */
+    WARD_BUFFER_TOO_SHORT = 9,        /* the result buffer is shorter than the exact answer */
+    WARD_SIZE_OUT_OF_LIMITS = 10,     /* badges or ticks, handed over, out of limits */
+    WARD_NOT_A_DAY = 11,              /* the words are no day: a badge in contact with itself, with one that is not there, or one-sided */
+    WARD_INVALID_SPAN = 12,           /* first after last, or last not a tick of the day */
+    WARD_FOREIGN_QUERY = 13,          /* the query has a badge that the day does not have */
+    WARD_INVALID_PARTS = 14,          /* no parts, or more than there are ticks */
+    WARD_WRITE_TOO_MANY = 15,         /* the tidy log would need more than 8,000 contact records */
+    WARD_THRESHOLD_OUT_OF_RANGE = 17, /* least ticks not 1 to 96, least order not 1 to 63, or least members not 2 to 64 */
+    WARD_INVALID_RECEIVERS = 18,      /* not 2 to 4 logs, a quorum that is not 1 to their number, or lengths that do not add up to the bytes */
+    WARD_DIFFERENT_SHIFTS = 19        /* the badges or ticks of a log differ from the first log's */
 };
 
 /* Reads a log into day words: word t * badges + u has bit v set exactly when u and v are in contact in tick t. On success every one of the
  * first badges * ticks words is set. Refused by 1 to 7, in the log's own order, then 8. */
 void ward_read(const uint8_t *log, size_t log_len, uint64_t *words, size_t words_len, uint64_t answer[5]);
+
+/* Joins the logs of from 2 to 4 receivers of one shift into day words. The logs lie end to end; lengths_len is their number, and lengths has how
+ * many bytes each takes. Word t * badges + u has bit v set exactly when at least quorum of the logs have u and v in contact in tick t: a log that
+ * says so twice counts once. quorum may be 1 to the number of logs. Lend badges * ticks words, and as many work words for each log: on success
+ * every one of the first badges * ticks words is set, and the first lengths_len * badges * ticks work words are 0. ward_write may refuse a joined
+ * day by 15, though it never refuses one that was read. Refused by 18; by 1 to 7, of the first log that is refused, each log judged within its own
+ * length; then 19, then 8. */
+void ward_join(const uint8_t *logs, size_t logs_len, const size_t *lengths, size_t lengths_len, size_t quorum, uint64_t *words, size_t words_len,
+               uint64_t *work, size_t work_len, uint64_t answer[5]);
 
 /* Tidies a log: two logs that mean the same give the same bytes, and no more contact records than came in. Leaves the day in the work
  * words. Refused by 1 to 7, in the log's own order, then 8, then 9. */

@@ -1,26 +1,29 @@
 #!/usr/bin/env bash
-# Builds the example in C with the address sanitizer, runs it on the example log and on D1's, and compares what it prints.
+# Builds the examples in C with the address sanitizer, runs them on the example logs and on D1's, and compares what they print.
 # Needs cc, and target/staticlib/libward.a, which `rt staticlib ward` writes. Says 'N passed, M failed'.
 set -euo pipefail
 cd "$(dirname "${BASH_SOURCE[0]}")/.."
 scratch=$(mktemp -d)
 trap 'rm -rf "$scratch"' EXIT
-cc -std=c11 -Wall -Wextra -Wpedantic -Werror -fsanitize=address,undefined -Iinclude examples/groups.c target/staticlib/libward.a -o "$scratch/groups"
+for example in groups receivers; do
+    cc -std=c11 -Wall -Wextra -Wpedantic -Werror -fsanitize=address,undefined -Iinclude "examples/$example.c" target/staticlib/libward.a \
+        -o "$scratch/$example"
+done
 passed=0
 failed=0
 
-# Compares what the example prints, for its arguments, with the text on descriptor 3. It ends with status 1 where a call is refused.
+# Compares what an example prints, for its arguments, with the text on descriptor 3. It ends with status 1 where a call is refused.
 try() {
-    "$scratch/groups" "$@" > "$scratch/printed" || [ $? -eq 1 ]
+    "$scratch/$1" "${@:2}" > "$scratch/printed" || [ $? -eq 1 ]
     if cmp -s "$scratch/printed" /dev/fd/3; then
         passed=$((passed + 1))
     else
         failed=$((failed + 1))
-        echo "groups $*: not the text expected"
+        echo "$*: not the text expected"
     fi
 }
 
-try examples/ward.log 1 3 3<<'TEXT'
+try groups examples/ward.log 1 3 3<<'TEXT'
 order 2 ticks 0 to 1 badges 0 1 2
 order 1 ticks 0 to 2 badges 0 1 2
 order 1 ticks 1 to 3 badges 3 4
@@ -30,20 +33,45 @@ score 0 ticks 2 to 3 badges 0 1 2 3 4
 TEXT
 
 # D1 and query {0} in one part: "score 0, all four badges"; and four parts: "h 4 gets 14"
-try crates/listing/stdin 0 1 3<<'TEXT'
+try groups crates/listing/stdin 0 1 3<<'TEXT'
 order 2 ticks 0 to 1 badges 0 1 2
 order 1 ticks 0 to 2 badges 2 3
 score 0 ticks 0 to 2 badges 0 1 2 3
 TEXT
-try crates/listing/stdin 2 4 3<<'TEXT'
+try groups crates/listing/stdin 2 4 3<<'TEXT'
 order 2 ticks 0 to 1 badges 0 1 2
 order 1 ticks 0 to 2 badges 2 3
 refused 14 at 0
 TEXT
 
 # A file that is no log: refused by its mark.
-try README.md 0 1 3<<'TEXT'
+try groups README.md 0 1 3<<'TEXT'
 refused 2 at 0
+TEXT
+
+# Two receivers: what one of them heard makes the groups of examples/ward.log.
+try receivers 1 examples/ward-east.log examples/ward-west.log 3<<'TEXT'
+order 2 ticks 0 to 1 badges 0 1 2
+order 1 ticks 0 to 2 badges 0 1 2
+order 1 ticks 1 to 3 badges 3 4
+TEXT
+
+# What both heard. The first says twice that 1 and 2 met in tick 0, the second does not: it does not count.
+try receivers 2 examples/ward-east.log examples/ward-west.log 3<<'TEXT'
+order 2 ticks 1 to 1 badges 0 1 2
+order 1 ticks 1 to 2 badges 0 1 2
+order 1 ticks 2 to 3 badges 3 4
+TEXT
+
+# A quorum of three of two logs; a second that is no log, after the 40 bytes of the first; and D1's as the second, of another shift.
+try receivers 3 examples/ward-east.log examples/ward-west.log 3<<'TEXT'
+refused 18 at 0
+TEXT
+try receivers 1 examples/ward-east.log README.md 3<<'TEXT'
+refused 2 at 40
+TEXT
+try receivers 1 examples/ward-east.log crates/listing/stdin 3<<'TEXT'
+refused 19 at 0
 TEXT
 
 echo "$passed passed, $failed failed"

@@ -1,13 +1,15 @@
 #!/usr/bin/env bash
 # Counts the instructions of one call on each day of the benchmark, in millions: figures that repeat. One table has the plain report, made by the
 # engine and by each baseline, and 'filtered', the engine's report of the groups that last 4 ticks or more, are of order 2 or more and have 3 members or
-# more: it should take no more instructions than the plain one, and how many fewer it takes, one by one, stands last. The other table has the engine's
-# plan around badges 0 and 1 in 8 parts, the core numbers of ticks 0 to 3, write, and read and tidy of the day's log, '-' where a day has none, having
-# more than 8,000 runs. Each count is of one call in a new process; buffers are not cleared between calls, and no clearing is counted.
-# Needs cargo, valgrind, and target/staticlib/libward.a, which `rt staticlib ward` writes. Its arguments are the days, all five if there are none.
+# more: it should take no more instructions than the plain one, and how many fewer it takes, one by one, stands last. The second table has the engine's
+# plan around badges 0 and 1 in 8 parts, the core numbers of ticks 0 to 3, write, and read and tidy of the day's log. The third has the join of the logs
+# of 2 and of 4 receivers at quorum 2, each with each run of the day's log with probability 3/4, and before it the reads of the same logs, one after the
+# other. In both there is a '-' where a day has no log, having more than 8,000 runs. Each count is of one call, or of the reads of 2 or 4 logs, in a new
+# process; buffers are not cleared between calls, and no clearing is counted.
+# Needs cargo, valgrind, and target/staticlib/libward.a, which `rt staticlib ward` writes. Its arguments are the days, all six if there are none.
 set -euo pipefail
 cd "$(dirname "${BASH_SOURCE[0]}")/../rust/ward"
-[ $# -gt 0 ] || set -- sparse busy dense random persistent
+[ $# -gt 0 ] || set -- sparse busy dense random persistent empty
 cargo build --quiet --offline --release --target-dir target --example bench
 scratch=$(mktemp -d)
 trap 'rm -rf "$scratch"' EXIT
@@ -21,9 +23,9 @@ count() {
     awk '/^(summary|totals):/ { count = $2 } END { print count + 0 }' "$scratch/out"
 }
 
-# A count in millions, and a ratio.
+# A count in millions, and a ratio; '-' where there is no count.
 millions() { awk -v count="$1" 'BEGIN { printf "%12s", count == 0 ? "-" : sprintf("%.3f", count / 1e6) }'; }
-ratio() { awk -v a="$1" -v b="$2" 'BEGIN { printf "%.2f", a / b }'; }
+ratio() { awk -v a="$1" -v b="$2" 'BEGIN { printf "%s", b == 0 ? "-" : sprintf("%.2f", a / b) }'; }
 
 declare -A counts
 reports=(engine lists algorithm2 bitsets filtered)
@@ -49,6 +51,23 @@ for day in "$@"; do
     for call in "${others[@]}"; do
         number=$(count "$day" "$call")
         millions "$number"
+    done
+    printf '\n'
+done
+
+printf '\n%-20s' "joins, millions"
+for receivers in 2 4; do
+    printf '%12s%12s%14s' "reads$receivers" "join$receivers" "join/reads"
+done
+printf '\n'
+for day in "$@"; do
+    printf '%-20s' "$day"
+    for receivers in 2 4; do
+        reads=$(count "$day" "reads$receivers")
+        join=$(count "$day" "join$receivers")
+        millions "$reads"
+        millions "$join"
+        printf '%14s' "$(ratio "$join" "$reads")"
     done
     printf '\n'
 done

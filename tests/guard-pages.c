@@ -1,7 +1,7 @@
 /* Random calls through the C interface, with every lent buffer between two pages that cannot be read or written, flush against one of them, and
  * with what a call may only read on pages that cannot be written: a call that reaches outside what was lent, or writes where it must not, ends the
- * program. So does an answer that is not of the form that the header gives. Its argument is the number of calls. Prints how many of each were
- * refused and how many succeeded. */
+ * program. So does an answer that is not of the form that the header gives, and a join that writes words it must leave, or leaves work words that
+ * are not 0. Its argument is the number of calls. Prints how many of each were refused and how many succeeded. */
 #define _DEFAULT_SOURCE
 #include <stdio.h>
 #include <stdlib.h>
@@ -10,7 +10,11 @@
 
 #include "ward.h"
 
-enum { PAGE = 4096, ROOM = 16 * PAGE, CALLS = 6 };
+/* A region has room for the work words of a join, the most that a call may need: 48 pages. */
+enum { PAGE = 4096, ROOM = 8 * WARD_JOIN_WORK_WORDS, MOST_LOGS = 5 };
+enum { READ, JOIN, TIDY, WRITE, CORE_NUMBERS, REPORT, PLAN, CALLS };
+
+static const char *const names[CALLS] = {"ward_read", "ward_join", "ward_tidy", "ward_write", "ward_core_numbers", "ward_report", "ward_plan"};
 
 static uint64_t state = 88172645463325252u;
 
@@ -91,11 +95,39 @@ static size_t threshold(size_t from, size_t to) {
     return below(20) == 0 ? odd[below(5)] : from + below(3);
 }
 
+/* Random logs end to end, mostly of one shift, and their lengths; gives how many bytes. Sometimes a length is off by one, and perhaps another so that
+ * the sum is still right. Sometimes the bytes are cut, and the last length with them: if the cut is longer, the sum of the lengths is right only by going
+ * round, and a log reaches beyond the bytes. */
+static size_t fill_logs(uint8_t *logs, size_t *lengths, size_t count, size_t n, size_t ticks) {
+    size_t size = 0;
+    for (size_t i = 0; i < count; i++)
+        size += lengths[i] = fill_log(logs + size, n + (below(40) == 0), ticks + (below(40) == 0));
+    if (count > 0 && below(10) == 0) {
+        size_t change = below(2) ? 1 : SIZE_MAX;
+        lengths[below(count)] += change;
+        if (below(2))
+            lengths[below(count)] -= change;
+    }
+    if (count > 0 && below(20) == 0) {
+        size_t cut = below(size + 1);
+        lengths[count - 1] -= cut;
+        size -= cut;
+    }
+    return size;
+}
+
+/* How many words to lend where so many are needed: mostly enough, sometimes fewer, sometimes all the room. */
+static size_t about(size_t needed) {
+    size_t len = below(8) == 0 ? below(needed + 1) : below(20) == 0 ? ROOM / 8 : needed + below(3);
+    return len < ROOM / 8 ? len : ROOM / 8;
+}
+
 /* The refusals that the header names for each call, as sets of their numbers. */
 #define GIVES(number) ((uint32_t)1 << (number))
 #define LOG (GIVES(WARD_TRAILING_BYTES + 1) - GIVES(WARD_CUT_SHORT))
 #define CHECK (GIVES(WARD_SIZE_OUT_OF_LIMITS) | GIVES(WARD_TOO_FEW_WORDS) | GIVES(WARD_NOT_A_DAY) | GIVES(WARD_BUFFER_TOO_SHORT))
 static const uint32_t refusals[CALLS] = {LOG | GIVES(WARD_TOO_FEW_WORDS),
+                                         LOG | GIVES(WARD_TOO_FEW_WORDS) | GIVES(WARD_INVALID_RECEIVERS) | GIVES(WARD_DIFFERENT_SHIFTS),
                                          LOG | GIVES(WARD_TOO_FEW_WORDS) | GIVES(WARD_BUFFER_TOO_SHORT),
                                          CHECK | GIVES(WARD_WRITE_TOO_MANY),
                                          CHECK | GIVES(WARD_INVALID_SPAN),
@@ -105,32 +137,75 @@ static const uint32_t refusals[CALLS] = {LOG | GIVES(WARD_TOO_FEW_WORDS),
 /* Whether the five numbers, all ones before the call, are an answer: a refusal of the call by its number and offset, or a success by its values,
  * and else 0. */
 static int is_answer(size_t call, const uint64_t answer[5]) {
-    uint64_t number = answer[WARD_NUMBER], values = answer[WARD_BADGES] | answer[WARD_TICKS];
+    uint64_t number = answer[WARD_NUMBER], badges = answer[WARD_BADGES], ticks = answer[WARD_TICKS], count = answer[WARD_COUNT];
     if (number != WARD_SUCCESS)
         return number < 32 && refusals[call] >> number & 1 && (number <= WARD_TRAILING_BYTES || answer[WARD_OFFSET] == 0) &&
-               (values | answer[WARD_COUNT]) == 0;
-    return answer[WARD_OFFSET] == 0 && answer[WARD_COUNT] <= WARD_REPORT_BYTES && (call == 0 ? values < 128 : values == 0);
+               (badges | ticks | count) == 0;
+    int finds_size = call == READ || call == JOIN;
+    return answer[WARD_OFFSET] == 0 && (call == JOIN ? count == 0 : count <= WARD_REPORT_BYTES) &&
+           (finds_size ? badges >= 1 && badges <= 64 && ticks >= 1 && ticks <= 96 : (badges | ticks) == 0);
+}
+
+/* Whether the words from one index up to another all have a value; not where the other is smaller. */
+static int all_are(uint64_t value, const uint64_t *words, size_t from, size_t to) {
+    while (from < to && words[from] == value)
+        from++;
+    return from == to;
+}
+
+/* The regions of what is lent. */
+static uint8_t *in, *lengths_at, *words_at, *work_at, *out_at, *answer_at;
+
+/* Joins random logs, with all ones in the words and the work words. Whether it kept all words but the day's, and all work words but as many for each
+ * log, and left 0 in these; a refusal has no day. */
+static int join(size_t n, size_t ticks, uint64_t *answer) {
+    static uint8_t logs[4096];
+    size_t count = below(20) == 0 ? below(MOST_LOGS + 1) : 2 + below(3);
+    size_t quorum = odd_size(count + (count == 0 || below(10) == 0), MOST_LOGS + 1);
+    size_t words_len = about(n * ticks), work_len = about(count * n * ticks);
+    size_t *lengths = flush(lengths_at, count * sizeof *lengths);
+    size_t size = fill_logs(logs, lengths, count, n, ticks);
+    uint64_t *words = flush(words_at, words_len * 8), *work = flush(work_at, work_len * 8);
+    uint8_t *bytes = flush(in, size);
+    memcpy(bytes, logs, size);
+    memset(words, 255, words_len * 8);
+    memset(work, 255, work_len * 8);
+    writable(in, 0);
+    writable(lengths_at, 0);
+    ward_join(bytes, size, lengths, count, quorum, words, words_len, work, work_len, answer);
+    writable(in, 1);
+    writable(lengths_at, 1);
+    size_t day = answer[WARD_BADGES] * answer[WARD_TICKS];
+    return all_are(UINT64_MAX, words, day, words_len) && all_are(UINT64_MAX, work, count * day, work_len) && all_are(0, work, 0, count * day);
 }
 
 int main(int argc, char **argv) {
     size_t calls = argc > 1 ? strtoul(argv[1], NULL, 10) : 1000;
-    uint8_t *in = region(), *words_at = region(), *out_at = region(), *answer_at = region();
     static uint8_t log[4096];
     static uint64_t day[ROOM / 8];
     size_t succeeded[CALLS] = {0}, refused[CALLS] = {0};
+    in = region();
+    lengths_at = region();
+    words_at = region();
+    work_at = region();
+    out_at = region();
+    answer_at = region();
     for (size_t i = 0; i < calls; i++) {
         size_t call = below(CALLS), large = below(2000) == 0;
         size_t n = odd_size(large ? 64 : 8, 64), ticks = odd_size(large ? 96 : 8, 96);
         size_t words_len = large ? ROOM / 8 : below(80), out_len = below(4) == 0 ? below(40) : large ? ROOM : below(600);
         uint64_t *answer = flush(answer_at, 40), *words = flush(words_at, words_len * 8);
         uint8_t *out = flush(out_at, out_len);
+        int kept = 1;
         memset(answer, 255, 40);
-        if (call < 2) {
+        if (call == JOIN) {
+            kept = join(1 + n % 66, 1 + ticks % 98, answer);
+        } else if (call == READ || call == TIDY) {
             size_t size = fill_log(log, 1 + n % 66, 1 + ticks % 98);
             uint8_t *bytes = flush(in, size);
             memcpy(bytes, log, size);
             writable(in, 0);
-            if (call == 0)
+            if (call == READ)
                 ward_read(bytes, size, words, words_len, answer);
             else
                 ward_tidy(bytes, size, words, words_len, out, out_len, answer);
@@ -139,18 +214,18 @@ int main(int argc, char **argv) {
             fill_words(day, words_len, n, ticks);
             memcpy(words, day, words_len * 8);
             writable(words_at, 0);
-            if (call == 2)
+            if (call == WRITE)
                 ward_write(words, words_len, n, ticks, out, out_len, answer);
-            else if (call == 3)
+            else if (call == CORE_NUMBERS)
                 ward_core_numbers(words, words_len, n, ticks, below(ticks % 99 + 1), below(ticks % 99 + 1), out, out_len, answer);
-            else if (call == 4)
+            else if (call == REPORT)
                 ward_report(words, words_len, n, ticks, threshold(1, 96), threshold(1, 63), threshold(2, 64), out, out_len, answer);
             else
                 ward_plan(words, words_len, n, ticks, next() & next() & next() & (((uint64_t)2 << n % 64) - 1), below(9), out, out_len, answer);
             writable(words_at, 1);
         }
-        if (!is_answer(call, answer)) {
-            printf("call %zu: not an answer\n", i);
+        if (!kept || !is_answer(call, answer)) {
+            printf("call %zu, %s: not what the header says\n", i, names[call]);
             return 1;
         }
         if (answer[WARD_NUMBER] == WARD_SUCCESS)
@@ -158,7 +233,6 @@ int main(int argc, char **argv) {
         else
             refused[call]++;
     }
-    static const char *names[CALLS] = {"ward_read", "ward_tidy", "ward_write", "ward_core_numbers", "ward_report", "ward_plan"};
     for (size_t call = 0; call < CALLS; call++)
         printf("%s: %zu succeeded, %zu refused\n", names[call], succeeded[call], refused[call]);
     return 0;

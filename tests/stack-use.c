@@ -10,17 +10,17 @@
 
 #include "ward.h"
 
-enum { PAGE = 4096, STACK = 1 << 20, LIMIT = 256 << 10, N = 64, TICKS = 96, PAIRS = N * (N - 1) / 2, RECORDS = 8000 };
-enum { READ, TIDY, WRITE, CORE_NUMBERS, REPORT, PLAN, CALLS };
+enum { PAGE = 4096, STACK = 1 << 20, LIMIT = 256 << 10, N = 64, TICKS = 96, PAIRS = N * (N - 1) / 2, RECORDS = 8000, LOGS = 4 };
+enum { READ, JOIN, TIDY, WRITE, CORE_NUMBERS, REPORT, PLAN, CALLS };
 
-static const char *const names[CALLS] = {"ward_read", "ward_tidy", "ward_write", "ward_core_numbers", "ward_report", "ward_plan"};
+static const char *const names[CALLS] = {"ward_read", "ward_join", "ward_tidy", "ward_write", "ward_core_numbers", "ward_report", "ward_plan"};
 
 /* What the next call takes, and what the calls fill. */
 static int call;
 static uint64_t words[WARD_WORDS], query;
-static uint8_t log_bytes[WARD_LOG_BYTES];
-static size_t log_size, last, parts, least_ticks;
-static uint64_t work[WARD_WORDS], answer[5];
+static uint8_t log_bytes[WARD_LOG_BYTES], logs[LOGS * WARD_LOG_BYTES];
+static size_t log_size, logs_size, lengths[LOGS], quorum, last, parts, least_ticks;
+static uint64_t work[WARD_WORDS], join_work[WARD_JOIN_WORK_WORDS], answer[5];
 static uint8_t out[WARD_REPORT_BYTES];
 
 static uint8_t *stack;
@@ -30,6 +30,8 @@ static size_t most[CALLS], succeeded[CALLS];
 static void make_call(void) {
     if (call == READ)
         ward_read(log_bytes, log_size, work, WARD_WORDS, answer);
+    else if (call == JOIN)
+        ward_join(logs, logs_size, lengths, LOGS, quorum, work, WARD_WORDS, join_work, WARD_JOIN_WORK_WORDS, answer);
     else if (call == TIDY)
         ward_tidy(log_bytes, log_size, work, WARD_WORDS, out, sizeof out, answer);
     else if (call == WRITE)
@@ -88,20 +90,26 @@ static void fill_words(size_t density, size_t keep) {
             }
 }
 
-/* A log of as many contact records as there may be, each a run of its own. */
-static void fill_log(void) {
+/* A log of as many contact records as there may be, each a run of its own, from a tick on; gives how many bytes. */
+static size_t fill_log(uint8_t *log, size_t tick) {
     static const uint8_t header[4] = {'B', 'H', N, TICKS}, end[6] = {'E', 'D', RECORDS & 255, RECORDS >> 8, 0, 0};
-    uint8_t *at = log_bytes;
+    uint8_t *at = log;
     memcpy(at, header, 4);
     at += 4;
-    for (size_t tick = 0, count = 0; count < RECORDS; tick += 2)
+    for (size_t count = 0; count < RECORDS; tick += 2)
         for (size_t u = 0; u < N; u++)
             for (size_t v = u + 1; v < N && count < RECORDS; v++, count++, at += 6) {
                 const uint8_t contact[6] = {'C', 'T', (uint8_t)v, (uint8_t)u, (uint8_t)tick, (uint8_t)tick};
                 memcpy(at, contact, 6);
             }
     memcpy(at, end, 6);
-    log_size = (size_t)(at + 6 - log_bytes);
+    return (size_t)(at + 6 - log);
+}
+
+/* Such logs end to end, with runs that one of them has, two, three, and all. */
+static void fill_logs(void) {
+    for (size_t i = 0; i < LOGS; i++)
+        logs_size += lengths[i] = fill_log(logs + logs_size, 2 * i);
 }
 
 static void measure_words(void) {
@@ -131,7 +139,10 @@ int main(void) {
     }
     stack = all + PAGE;
 
-    fill_log();
+    fill_logs();
+    for (quorum = 1; quorum <= LOGS; quorum++)
+        measure(JOIN);
+    log_size = fill_log(log_bytes, 0);
     measure(READ);
     measure(TIDY);
     memcpy(words, work, sizeof words);

@@ -124,6 +124,11 @@ example-holds =
     then refl
     then refl
     then refl
+    then refl
+    then refl
+    then refl
+    then refl
+    then refl
     then none
 
 pub requested-holds : AllHold requested
@@ -157,6 +162,32 @@ requested-holds =
     then refl
     then refl
     -- the first of the best cuttings
+    then refl
+    then refl
+    then refl
+    then refl
+    then refl
+    then refl
+    then refl
+    -- joining: who heard what
+    then refl
+    then refl
+    then refl
+    then refl
+    then refl
+    then refl
+    then refl
+    then refl
+    then refl
+    -- 19, the logs' refusals, 18 and 8
+    then refl
+    then refl
+    then refl
+    then refl
+    then refl
+    then refl
+    then refl
+    then refl
     then refl
     then refl
     then refl

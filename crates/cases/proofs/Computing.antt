@@ -13,6 +13,8 @@ use Rattle.records.specs.Verdicts.{valuesOf}
 use Rattle.records.specs.Logs.{logRecords}
 use Rattle.days.specs.Days.{neighbours, adjacent, tickWords, dayWords, dayOf, isTick, isDay}
 use Rattle.days.specs.Calls.{readJudged, readOf, checkOf}
+use Rattle.days.specs.Series.{parts, judgeLogs, badgesIn, ticksIn, haveSize, judgeSeries, commonSize}
+use Rattle.receivers.specs.Joining.{sum, joinable, judgeJoin, heardBy, quorum, joinedDay, joinJudged, joinOf}
 use Rattle.log.specs.Tidy.{runStart, runEnds, runAt, runsOf, rowRuns, tidyContacts, tidyLog}
 use Rattle.log.specs.Buffers.{deliver}
 use Rattle.log.specs.Calls.{writeJudged, writeOf, tidyBefore9, tidyOf}
@@ -37,8 +39,8 @@ use Rattle.cases.specs.RecordBytes.{BH, CT, ED, RH, GR, PH, PT}
 use Rattle.cases.specs.Rows.{Holds}
 use Rattle.cases.specs.Table.{sevens, d1Log, d1Variant, d1Report, changingLog, changingWords, emptyLog, emptyWords, equalBadges, starred}
 use Rattle.cases.specs.Further.{nestedLog, nestedWords, further}
-use Rattle.cases.specs.Example.{exampleLog, exampleWords, exampleTidy, example}
-use Rattle.cases.specs.Requests.{triple, couple, nobody, requested}
+use Rattle.cases.specs.Example.{exampleLog, exampleWords, exampleTidy, eastLog, westLog, bothWords, example}
+use Rattle.cases.specs.Requests.{triple, couple, nobody, missing, missingWords, repeating, repeatingWords, fourTicks, requested}
 
 -- sets and lists
 sets-computing : ℕ
@@ -47,7 +49,7 @@ sets-computing = 0
 
 -- records, judging a log, days, tidy logs and the calls of the log part
 log-computing : ℕ
-unfolding sets-computing withinLimits fieldsOf encode encodeAll isMark markFrom recordFrom decodeMarked decode refuseIf andThen validContact judgeKind judgeValues judgeDecoded judgeRecord prepend judgeIn judgeFrom judge badgesOf ticksOf contactsOf covers inContact valuesOf logRecords neighbours adjacent tickWords dayWords dayOf isTick isDay runStart runEnds runAt runsOf rowRuns tidyContacts tidyLog deliver readJudged readOf checkOf writeJudged writeOf tidyBefore9 tidyOf
+unfolding sets-computing withinLimits fieldsOf encode encodeAll isMark markFrom recordFrom decodeMarked decode refuseIf andThen validContact judgeKind judgeValues judgeDecoded judgeRecord prepend judgeIn judgeFrom judge badgesOf ticksOf contactsOf covers inContact valuesOf logRecords neighbours adjacent tickWords dayWords dayOf isTick isDay runStart runEnds runAt runsOf rowRuns tidyContacts tidyLog deliver readJudged readOf checkOf parts judgeLogs badgesIn ticksIn haveSize judgeSeries commonSize sum joinable judgeJoin heardBy quorum joinedDay joinJudged joinOf writeJudged writeOf tidyBefore9 tidyOf
 log-computing = 0
 
 -- cores, cuttings, and the calls of the group part
@@ -62,5 +64,5 @@ text-computing = 0
 
 -- the tables
 unfoldable pub computing : ℕ
-unfolding text-computing badges tiesWords BH CT ED RH GR PH PT Holds sevens d1Log d1Words d1Variant d1Report changingLog changingWords emptyLog emptyWords equalBadges starred nestedLog nestedWords further exampleLog exampleWords exampleTidy example triple couple nobody requested
+unfolding text-computing badges tiesWords BH CT ED RH GR PH PT Holds sevens d1Log d1Words d1Variant d1Report changingLog changingWords emptyLog emptyWords equalBadges starred nestedLog nestedWords further exampleLog exampleWords exampleTidy eastLog westLog bothWords example triple couple nobody missing missingWords repeating repeatingWords fourTicks requested
 computing = 0

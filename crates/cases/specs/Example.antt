@@ -1,12 +1,13 @@
 -- The worked example of README: a small log made by hand, and what the calls and the listing program make of it. What a row says is in Rows.
 use mathlib.Core.List.{List, [], _∷_, _++_}
 use Prim.Native.Nat.{ℕ}
+use lib.ListN.{replicate}
 use Rattle.records.specs.Outcomes.{success}
 use Rattle.thresholds.specs.Ranges.{leastOf, plain}
 use Rattle.promises.specs.D1.{badges}
 use Rattle.cases.specs.RecordBytes.{BH, CT, ED, RH, GR, PH, PT}
-use Rattle.cases.specs.Rows.{Row, read, tidy, core-numbers, report, plan, plan-sum, plan-ends, cut-sum, listing, length-of}
-use Rattle.cases.specs.Table.{sevens, accepted}
+use Rattle.cases.specs.Rows.{Row, read, join, tidy, core-numbers, report, plan, plan-sum, plan-ends, cut-sum, listing, length-of}
+use Rattle.cases.specs.Table.{sevens, accepted, sized}
 
 -- five badges, four ticks, in arrival order: 2–0 in ticks 0 to 1, 0–1 in ticks 0 to 2, 1–2 in ticks 0 to 1 and, from the other side, in
 -- tick 2, and 3–4 in ticks 1 to 3
@@ -24,6 +25,21 @@ exampleWords =
 -- its tidy log
 unfoldable pub exampleTidy : List ℕ
 exampleTidy = BH 5 4 ++ CT 0 1 0 2 ++ CT 0 2 0 1 ++ CT 1 2 0 2 ++ CT 3 4 1 3 ++ ED 4
+
+-- what two receivers heard of the same shift: each misses some of it, and the first says twice that 1 and 2 were together in ticks 0 and 1
+unfoldable pub eastLog : List ℕ
+eastLog = BH 5 4 ++ CT 0 1 0 2 ++ CT 0 2 0 1 ++ CT 1 2 0 1 ++ CT 2 1 0 2 ++ CT 3 4 2 3 ++ ED 5
+
+unfoldable pub westLog : List ℕ
+westLog = BH 5 4 ++ CT 4 3 1 3 ++ CT 0 1 1 2 ++ CT 2 0 1 1 ++ CT 1 2 1 2 ++ ED 4
+
+-- what both heard
+unfoldable pub bothWords : List ℕ
+bothWords =
+    (badges [] ∷ badges [] ∷ badges [] ∷ badges [] ∷ badges [] ∷ [])
+    ++ (badges (1 ∷ 2 ∷ []) ∷ badges (0 ∷ 2 ∷ []) ∷ badges (0 ∷ 1 ∷ []) ∷ badges [] ∷ badges [] ∷ [])
+    ++ (badges (1 ∷ []) ∷ badges (0 ∷ 2 ∷ []) ∷ badges (1 ∷ []) ∷ badges (4 ∷ []) ∷ badges (3 ∷ []) ∷ [])
+    ++ (badges [] ∷ badges [] ∷ badges [] ∷ badges (4 ∷ []) ∷ badges (3 ∷ []) ∷ [])
 
 unfoldable pub example : List Row
 example =
@@ -43,4 +59,10 @@ example =
     ∷ plan-ends 5 4 exampleWords (badges (1 ∷ [])) 2 (0 ∷ 3 ∷ [])
     ∷ cut-sum 5 exampleWords (badges (1 ∷ [])) (0 ∷ 3 ∷ []) 2
     ∷ cut-sum 5 exampleWords (badges (1 ∷ [])) (1 ∷ 3 ∷ []) 2
+    -- two receivers: what one of them heard is the day above; what both heard, and its groups
+    ∷ length-of eastLog 40
+    ∷ length-of westLog 34
+    ∷ join (eastLog ++ westLog) (40 ∷ 34 ∷ []) 1 (sevens 20) (sevens 40) (sized 5 4) exampleWords (replicate 40 0)
+    ∷ join (eastLog ++ westLog) (40 ∷ 34 ∷ []) 2 (sevens 20) (sevens 40) (sized 5 4) bothWords (replicate 40 0)
+    ∷ report 5 4 bothWords plain (sevens 49) (success 49) (RH 5 4 ++ GR 2 1 1 (badges (0 ∷ 1 ∷ 2 ∷ [])) ++ GR 1 1 2 (badges (0 ∷ 1 ∷ 2 ∷ [])) ++ GR 1 2 3 (badges (3 ∷ 4 ∷ [])) ++ ED 3)
     ∷ []

@@ -7,8 +7,8 @@ use Rattle.thresholds.specs.Ranges.{leastOf}
 use Rattle.promises.specs.D1.{badges, d1Words}
 use Rattle.promises.specs.Ties.{tiesWords}
 use Rattle.cases.specs.RecordBytes.{BH, CT, ED, RH, GR, PH, PT}
-use Rattle.cases.specs.Rows.{Row, tidy, report, plan, plan-ends, cut-sum, length-of}
-use Rattle.cases.specs.Table.{sevens}
+use Rattle.cases.specs.Rows.{Row, join, tidy, report, plan, plan-ends, cut-sum, length-of}
+use Rattle.cases.specs.Table.{sevens, sized, d1Log, emptyLog, emptyWords, equalBadges}
 
 -- reports of D1 that keep one of its two groups, "order 2, 0 to 1, {0,1,2}" and "order 1, 0 to 2, {2,3}", and none
 unfoldable pub triple : List ℕ
@@ -19,6 +19,29 @@ couple = RH 4 3 ++ GR 1 0 2 (badges (2 ∷ 3 ∷ [])) ++ ED 1
 
 unfoldable pub nobody : List ℕ
 nobody = RH 4 3 ++ ED 0
+
+-- "D1 .. contacts 0–1, 0–2 and 1–2 in ticks 0 to 1, and 2–3 in ticks 0 to 2", heard by a receiver that misses 0–1 and names the others from the other side;
+-- by one that hears 2–3 alone, and says it twice; D1's contacts in a day of 4 ticks; and no contacts
+unfoldable pub missing : List ℕ
+missing = BH 4 3 ++ CT 3 2 0 2 ++ CT 2 0 0 1 ++ CT 2 1 0 1 ++ ED 3
+
+unfoldable pub missingWords : List ℕ
+missingWords =
+    (badges (2 ∷ []) ∷ badges (2 ∷ []) ∷ badges (0 ∷ 1 ∷ 3 ∷ []) ∷ badges (2 ∷ []) ∷ [])
+    ++ (badges (2 ∷ []) ∷ badges (2 ∷ []) ∷ badges (0 ∷ 1 ∷ 3 ∷ []) ∷ badges (2 ∷ []) ∷ [])
+    ++ (badges [] ∷ badges [] ∷ badges (3 ∷ []) ∷ badges (2 ∷ []) ∷ [])
+
+unfoldable pub repeating : List ℕ
+repeating = BH 4 3 ++ CT 2 3 0 2 ++ CT 2 3 0 2 ++ ED 2
+
+unfoldable pub repeatingWords : List ℕ
+repeatingWords =
+    (badges [] ∷ badges [] ∷ badges (3 ∷ []) ∷ badges (2 ∷ []) ∷ [])
+    ++ (badges [] ∷ badges [] ∷ badges (3 ∷ []) ∷ badges (2 ∷ []) ∷ [])
+    ++ (badges [] ∷ badges [] ∷ badges (3 ∷ []) ∷ badges (2 ∷ []) ∷ [])
+
+unfoldable pub fourTicks : List ℕ
+fourTicks = BH 4 4 ++ CT 0 1 0 1 ++ CT 0 2 0 1 ++ CT 1 2 0 1 ++ CT 2 3 0 2 ++ ED 4
 
 unfoldable pub requested : List Row
 requested =
@@ -64,4 +87,35 @@ requested =
     ∷ cut-sum 3 tiesWords (badges (0 ∷ [])) (0 ∷ 3 ∷ 4 ∷ []) 3
     ∷ cut-sum 3 tiesWords (badges (0 ∷ [])) (1 ∷ 2 ∷ 4 ∷ []) 3
     ∷ cut-sum 3 tiesWords (badges (0 ∷ [])) (2 ∷ 3 ∷ 4 ∷ []) 3
+    -- "Four. .. A contact counts if at least q receivers heard it": one of two misses 0–1; words after the day and work words after those of each log stay
+    ∷ length-of missing 28
+    ∷ join (d1Log ++ missing) (34 ∷ 28 ∷ []) 1 (sevens 12) (sevens 24) (sized 4 3) d1Words (replicate 24 0)
+    ∷ join (d1Log ++ missing) (34 ∷ 28 ∷ []) 2 (sevens 13) (sevens 26) (sized 4 3) (missingWords ++ 7 ∷ []) (replicate 24 0 ++ 7 ∷ 7 ∷ [])
+    -- "a receiver that logs it twice counts once": one that says 2–3 twice, with one that says nothing, and with D1's
+    ∷ length-of repeating 22
+    ∷ join (repeating ++ emptyLog) (22 ∷ 10 ∷ []) 1 (sevens 12) (sevens 24) (sized 4 3) repeatingWords (replicate 24 0)
+    ∷ join (repeating ++ emptyLog) (22 ∷ 10 ∷ []) 2 (sevens 12) (sevens 24) (sized 4 3) emptyWords (replicate 24 0)
+    ∷ join (repeating ++ d1Log) (22 ∷ 34 ∷ []) 2 (sevens 12) (sevens 24) (sized 4 3) repeatingWords (replicate 24 0)
+    -- three logs and four: 0–1 is heard by one of three, and 2–3 by all
+    ∷ join (d1Log ++ missing ++ repeating) (34 ∷ 28 ∷ 22 ∷ []) 2 (sevens 12) (sevens 36) (sized 4 3) missingWords (replicate 36 0)
+    ∷ join (d1Log ++ missing ++ repeating ++ d1Log) (34 ∷ 28 ∷ 22 ∷ 34 ∷ []) 4 (sevens 12) (sevens 48) (sized 4 3) repeatingWords (replicate 48 0)
+    -- "19, n or T differs from the first log, judged after all logs pass and before 8"
+    ∷ join (d1Log ++ fourTicks) (34 ∷ 34 ∷ []) 1 (sevens 12) (sevens 32) (refused 19 0) (sevens 12) (sevens 32)
+    ∷ join (d1Log ++ fourTicks) (34 ∷ 34 ∷ []) 1 [] [] (refused 19 0) [] []
+    ∷ join (d1Log ++ fourTicks ++ equalBadges) (34 ∷ 34 ∷ 16 ∷ []) 1 [] [] (refused 4 72) [] []
+    -- "Offsets count from the start of the buffer", each log is judged within its length, and an empty one gets 1 where it would start
+    ∷ join (d1Log ++ equalBadges) (34 ∷ 16 ∷ []) 1 (sevens 12) (sevens 24) (refused 4 38) (sevens 12) (sevens 24)
+    ∷ join (d1Log ++ emptyLog) (33 ∷ 11 ∷ []) 1 (sevens 12) (sevens 24) (refused 1 28) (sevens 12) (sevens 24)
+    ∷ join (d1Log ++ emptyLog) (35 ∷ 9 ∷ []) 1 (sevens 12) (sevens 24) (refused 7 34) (sevens 12) (sevens 24)
+    ∷ join (d1Log ++ d1Log) (34 ∷ 0 ∷ 34 ∷ []) 1 (sevens 12) (sevens 36) (refused 1 34) (sevens 12) (sevens 36)
+    -- "18, number of logs or q outside its limits, or lengths that don't add up to the buffer, judged before any log"; the third sum is 34 at 64 bits
+    ∷ join d1Log (34 ∷ []) 1 (sevens 12) (sevens 12) (refused 18 0) (sevens 12) (sevens 12)
+    ∷ join (emptyLog ++ emptyLog ++ emptyLog ++ emptyLog ++ emptyLog) (10 ∷ 10 ∷ 10 ∷ 10 ∷ 10 ∷ []) 1 (sevens 12) (sevens 60) (refused 18 0) (sevens 12) (sevens 60)
+    ∷ join d1Log (18446744073709551615 ∷ 35 ∷ []) 1 (sevens 12) (sevens 24) (refused 18 0) (sevens 12) (sevens 24)
+    ∷ join (d1Log ++ equalBadges) (34 ∷ 15 ∷ []) 1 (sevens 12) (sevens 24) (refused 18 0) (sevens 12) (sevens 24)
+    ∷ join (d1Log ++ equalBadges) (34 ∷ 16 ∷ []) 0 (sevens 12) (sevens 24) (refused 18 0) (sevens 12) (sevens 24)
+    ∷ join (d1Log ++ equalBadges) (34 ∷ 16 ∷ []) 3 (sevens 12) (sevens 24) (refused 18 0) (sevens 12) (sevens 24)
+    -- 8: "the first n×T work words for each log, counted by 8 too"
+    ∷ join (d1Log ++ missing) (34 ∷ 28 ∷ []) 1 (sevens 11) (sevens 24) (refused 8 0) (sevens 11) (sevens 24)
+    ∷ join (d1Log ++ missing) (34 ∷ 28 ∷ []) 1 (sevens 12) (sevens 23) (refused 8 0) (sevens 12) (sevens 23)
     ∷ []

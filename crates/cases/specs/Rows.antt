@@ -7,6 +7,8 @@ use lib.ListN.{length}
 use Rattle.records.specs.Outcomes.{Outcome}
 use Rattle.records.specs.Verdicts.{Values}
 use Rattle.days.specs.Calls.{readOf}
+use Rattle.days.specs.Series.{Size}
+use Rattle.receivers.specs.Joining.{joinOf}
 use Rattle.log.specs.Calls.{tidyOf, writeOf}
 use Rattle.thresholds.specs.declared.Thresholds.{Thresholds}
 use Rattle.spans.specs.Plans.{partsFrom, partsOf}
@@ -15,12 +17,13 @@ use Rattle.groups.specs.Calls.{coreNumbersOf, reportOf, planOf}
 use Rattle.sets.specs.Ascii.{ascii}
 use Rattle.text.specs.Listing.{listing as listed}
 
--- A row has a call's arguments, what it answers, and what it leaves in each slice that was lent, in this order: `words` and `buffer` are lent,
--- `words′` and `buffer′` are left. `plan-sum` and `plan-ends` have the arguments of a plan, and the sum of its scores or its part ends; `cut-sum` has a
+-- A row has a call's arguments, what it answers, and what it leaves in each slice that was lent, in this order: `words`, `work` and `buffer` are
+-- lent, `words′`, `work′` and `buffer′` are left. `plan-sum` and `plan-ends` have the arguments of a plan, and the sum of its scores or its part ends; `cut-sum` has a
 -- list of part ends and the sum of scores of the parts that it cuts; `listing` has a log and the text that the listing program writes; `length-of`
 -- has bytes and their number.
 pub data Row : Type 0 where
   read : (log words : List ℕ) (answer : Outcome Values) (words′ : List ℕ) → Row
+  join : (logs lengths : List ℕ) (q : ℕ) (words work : List ℕ) (answer : Outcome Size) (words′ work′ : List ℕ) → Row
   tidy : (log words buffer : List ℕ) (answer : Outcome ℕ) (words′ buffer′ : List ℕ) → Row
   write : (n T : ℕ) (words buffer : List ℕ) (answer : Outcome ℕ) (buffer′ : List ℕ) → Row
   core-numbers : (n T : ℕ) (words : List ℕ) (first last : ℕ) (buffer : List ℕ) (answer : Outcome ℕ) (buffer′ : List ℕ) → Row
@@ -35,6 +38,7 @@ pub data Row : Type 0 where
 -- what a row says
 unfoldable pub Holds : Row → Type 0
 Holds (read log words answer words′) = readOf log words ≡ record { answer = answer; words = words′ }
+Holds (join logs lengths q words work answer words′ work′) = joinOf logs lengths q words work ≡ record { answer = answer; words = words′; work = work′ }
 Holds (tidy log words buffer answer words′ buffer′) = tidyOf log words buffer ≡ record { answer = answer; words = words′; buffer = buffer′ }
 Holds (write n T words buffer answer buffer′) = writeOf n T words buffer ≡ record { answer = answer; buffer = buffer′ }
 Holds (core-numbers n T words first last buffer answer buffer′) = coreNumbersOf n T words first last buffer ≡ record { answer = answer; buffer = buffer′ }

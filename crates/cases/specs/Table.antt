@@ -5,6 +5,7 @@ use Prim.Native.Nat.{ℕ}
 use lib.ListN.{replicate}
 use Rattle.records.specs.Outcomes.{Outcome, refused, success}
 use Rattle.records.specs.Verdicts.{Values}
+use Rattle.days.specs.Series.{Size}
 use Rattle.thresholds.specs.Ranges.{plain}
 use Rattle.promises.specs.D1.{badges, d1Words}
 use Rattle.cases.specs.RecordBytes.{BH, CT, ED, RH, GR, PH, PT}
@@ -17,6 +18,10 @@ sevens m = replicate m 7
 -- what read answers: n, T and the number of CT records as given
 abbrev pub accepted : ℕ → ℕ → ℕ → Outcome Values
 accepted n T contacts = success (record { badges = n; ticks = T; contacts = contacts })
+
+-- what joining answers: n and T
+abbrev pub sized : ℕ → ℕ → Outcome Size
+sized n T = success (record { badges = n; ticks = T })
 
 -- "D1: n 4, T 3, contacts 0–1, 0–2 and 1–2 in ticks 0 to 1, and 2–3 in ticks 0 to 2." As a log:
 unfoldable pub d1Log : List ℕ

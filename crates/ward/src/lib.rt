@@ -4,13 +4,15 @@ mod answers;
 
 ghost use mathlib.Core.Path.{_≡_};
 ghost use Rattle.days.specs.Calls.{readOf};
+ghost use Rattle.receivers.specs.Joining.{joinOf};
 ghost use Rattle.log.specs.Calls.{tidyOf, writeOf};
 ghost use Rattle.thresholds.specs.Ranges.{leastOf};
 ghost use Rattle.groups.specs.Calls.{coreNumbersOf, reportOf, planOf};
 ghost use Rattle.groups.specs.GroupReports.{Reported};
 ghost use Rattle.groups.specs.ShiftPlans.{PlanShown};
-ghost use Rattle.ward.specs.Answers.{readAnswer, writtenAnswer};
+ghost use Rattle.ward.specs.Answers.{readAnswer, joinAnswer, writtenAnswer};
 use answers::group_answer;
+use answers::join_answer;
 use answers::log_answer;
 use answers::read_answer;
 use groups::Thresholds;
@@ -24,6 +26,24 @@ pub extern "C" fn ward_read(log: &[u8], words: &mut [u64], answer: &mut [u64; 5]
 {
     let verdict = log::read(log, words);
     *answer = read_answer(verdict);
+}
+
+// receivers::join.
+#[no_mangle]
+pub extern "C" fn ward_join(
+    logs: &[u8],
+    lengths: &[usize],
+    quorum: usize,
+    words: &mut [u64],
+    work: &mut [u64],
+    answer: &mut [u64; 5],
+)
+    ensures answer { λ _. ⌜ now (answer .exit) ≡ joinAnswer (joinOf (now (logs .entry)) (now (lengths .entry)) quorum (now (words .entry)) (now (work .entry)) .answer) ⌝ }
+    ensures words { λ _. ⌜ now (words .exit) ≡ joinOf (now (logs .entry)) (now (lengths .entry)) quorum (now (words .entry)) (now (work .entry)) .words ⌝ }
+    ensures work { λ _. ⌜ now (work .exit) ≡ joinOf (now (logs .entry)) (now (lengths .entry)) quorum (now (words .entry)) (now (work .entry)) .work ⌝ }
+{
+    let joined = receivers::join(logs, lengths, quorum, words, work);
+    *answer = join_answer(joined);
 }
 
 // log::tidy.

@@ -21,6 +21,8 @@ pub use refusal::{Refusal, Refused};
 
 /// Words that hold any day: 64 badges, 96 ticks.
 pub const WORDS: usize = 6144;
+/// Work words that are enough to join any logs: those of a day for each of 4.
+pub const JOIN_WORK_WORDS: usize = 4 * WORDS;
 /// Bytes that hold any log, tidy or not.
 pub const LOG_BYTES: usize = 48010;
 /// Bytes that hold any report.
@@ -36,6 +38,13 @@ pub struct Day {
     pub badges: usize,
     pub ticks: usize,
     pub contacts: usize,
+}
+
+/// The day that `join` made: n and T, which all logs had.
+#[derive(Clone, Copy, Debug, PartialEq, Eq)]
+pub struct Joined {
+    pub badges: usize,
+    pub ticks: usize,
 }
 
 /// What a group needs for a report to keep it: so many ticks or more, 1 to 96; an order of so much or more, 1 to 63; so many members or more, 2 to 64.
@@ -61,6 +70,18 @@ type Answer = [u64; 5];
 
 extern "C" {
     fn ward_read(log: *const u8, log_len: usize, words: *mut u64, words_len: usize, answer: *mut Answer);
+    fn ward_join(
+        logs: *const u8,
+        logs_len: usize,
+        lengths: *const usize,
+        lengths_len: usize,
+        quorum: usize,
+        words: *mut u64,
+        words_len: usize,
+        work: *mut u64,
+        work_len: usize,
+        answer: *mut Answer,
+    );
     fn ward_tidy(log: *const u8, log_len: usize, work: *mut u64, work_len: usize, out: *mut u8, out_len: usize, answer: *mut Answer);
     fn ward_write(words: *const u64, words_len: usize, badges: usize, ticks: usize, out: *mut u8, out_len: usize, answer: *mut Answer);
     fn ward_core_numbers(
@@ -115,6 +136,50 @@ pub fn read(log: &[u8], words: &mut [u64]) -> Result<Day, Refused> {
     unsafe { ward_read(log.as_ptr(), log.len(), words.as_mut_ptr(), words.len(), &mut answer) };
     refused(answer)?;
     Ok(Day { badges: answer[2] as usize, ticks: answer[3] as usize, contacts: answer[4] as usize })
+}
+
+/// Joins the logs of from 2 to 4 receivers of one shift into day words. The logs lie end to end, and `lengths` has how many bytes each takes. Word t×n+u has
+/// bit v set exactly when at least `quorum` of the logs, from 1 to all of them, have u and v in contact in tick t; a log that says so twice counts once.
+/// There must be n×T work words for each log, and they are left 0. A refused call changes no word.
+///
+/// ```
+/// let both = *b"BH\x03\x01CT\x00\x01\x00\x00CT\x01\x02\x00\x00ED\x02\x00\x00\x00"; // 0 with 1, and 1 with 2
+/// let one = *b"BH\x03\x01CT\x02\x01\x00\x00CT\x01\x02\x00\x00ED\x02\x00\x00\x00"; // 1 with 2, said twice
+/// let (logs, lengths) = ([both, one].concat(), [both.len(), one.len()]);
+/// let (mut words, mut work) = ([7u64; ward::WORDS], [7u64; ward::JOIN_WORK_WORDS]);
+///
+/// let day = ward::join(&logs, &lengths, 1, &mut words, &mut work)?;
+/// assert_eq!(day, ward::Joined { badges: 3, ticks: 1 });
+/// assert_eq!(words[..4], [0b010, 0b101, 0b010, 7]); // what one of them heard
+/// assert_eq!(work[..7], [0, 0, 0, 0, 0, 0, 7]);
+///
+/// ward::join(&logs, &lengths, 2, &mut words, &mut work)?;
+/// assert_eq!(words[..4], [0b000, 0b100, 0b010, 7]); // what both heard
+///
+/// let refused = ward::join(&logs, &lengths, 3, &mut words, &mut work).unwrap_err();
+/// assert_eq!(refused.refusal, ward::Refusal::InvalidReceivers);
+/// let refused = ward::join(&logs[..43], &[22, 21], 1, &mut words, &mut work).unwrap_err();
+/// assert_eq!((refused.refusal, refused.offset), (ward::Refusal::CutShort, 38)); // the second log's end, from the start of the first
+/// # Ok::<(), ward::Refused>(())
+/// ```
+pub fn join(logs: &[u8], lengths: &[usize], quorum: usize, words: &mut [u64], work: &mut [u64]) -> Result<Joined, Refused> {
+    let mut answer = [0; 5];
+    unsafe {
+        ward_join(
+            logs.as_ptr(),
+            logs.len(),
+            lengths.as_ptr(),
+            lengths.len(),
+            quorum,
+            words.as_mut_ptr(),
+            words.len(),
+            work.as_mut_ptr(),
+            work.len(),
+            &mut answer,
+        )
+    };
+    refused(answer)?;
+    Ok(Joined { badges: answer[2] as usize, ticks: answer[3] as usize })
 }
 
 /// Tidies a log into a buffer, and gives the number of bytes. Two logs that mean the same give the same bytes, and no more contact records

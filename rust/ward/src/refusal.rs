@@ -3,16 +3,16 @@
 use std::error::Error;
 use std::fmt;
 
-/// A refusal, in the order of its numbers: 1 to 15, and 17. 16 is unused, and no refusal will ever get it.
+/// A refusal, in the order of its numbers: 1 to 15, and 17 to 19. 16 is unused, and no refusal will ever get it.
 ///
 /// ```
 /// use ward::Refusal;
 /// assert_eq!(Refusal::NotADay.number(), 11);
 /// assert_eq!(Refusal::from_number(11), Some(Refusal::NotADay));
-/// for number in (1..=15).chain([17]) {
+/// for number in (1..=15).chain(17..=19) {
 ///     assert_eq!(Refusal::from_number(number).map(|refusal| refusal.number() as u64), Some(number));
 /// }
-/// assert_eq!([0, 16, 18].map(Refusal::from_number), [None; 3]);
+/// assert_eq!([0, 16, 20].map(Refusal::from_number), [None; 3]);
 /// ```
 #[derive(Clone, Copy, Debug, PartialEq, Eq)]
 pub enum Refusal {
@@ -32,11 +32,13 @@ pub enum Refusal {
     InvalidParts,
     WriteTooMany,
     ThresholdOutOfRange = 17,
+    InvalidReceivers,
+    DifferentShifts,
 }
 
 use Refusal::*;
 
-const ALL: [(Refusal, &str); 16] = [
+const ALL: [(Refusal, &str); 18] = [
     (CutShort, "the bytes end inside a record, or where one must start"),
     (WrongMark, "the mark is not that of a record that may stand there"),
     (HeaderOutOfLimits, "badges not 1 to 64, or ticks not 1 to 96"),
@@ -44,7 +46,7 @@ const ALL: [(Refusal, &str); 16] = [
     (TooManyContacts, "contact record number 8,001"),
     (WrongCount, "the end's count differs"),
     (TrailingBytes, "bytes follow the end"),
-    (TooFewWords, "fewer words lent than badges times ticks"),
+    (TooFewWords, "fewer words lent than badges times ticks, or fewer work words than that for each log"),
     (BufferTooShort, "the buffer is shorter than the answer"),
     (SizeOutOfLimits, "badges not 1 to 64, or ticks not 1 to 96, handed over"),
     (NotADay, "the words are not a day"),
@@ -53,10 +55,12 @@ const ALL: [(Refusal, &str); 16] = [
     (InvalidParts, "no parts, or more than there are ticks"),
     (WriteTooMany, "the tidy log would need more than 8,000 contact records"),
     (ThresholdOutOfRange, "least ticks not 1 to 96, least order not 1 to 63, or least members not 2 to 64"),
+    (InvalidReceivers, "not 2 to 4 logs, a quorum that is not 1 to their number, or lengths that do not add up to the bytes"),
+    (DifferentShifts, "the badges or ticks of a log differ from the first log's"),
 ];
 
 impl Refusal {
-    /// The refusal of a number; none for 0, which is success, for 16, and for a number above 17.
+    /// The refusal of a number; none for 0, which is success, for 16, and for a number above 19.
     pub fn from_number(number: u64) -> Option<Refusal> {
         ALL.iter().map(|row| row.0).find(|refusal| *refusal as u64 == number)
     }
@@ -68,7 +72,7 @@ impl Refusal {
 }
 
 /// What a refused call answers: the refusal, and a byte offset. The offset is the start of the refused record for 1 to 6, of the first extra
-/// byte for 7, and 0 otherwise.
+/// byte for 7, and 0 otherwise. Of several logs it counts from the start of the first.
 ///
 /// ```
 /// let refused = ward::read(b"BH\x02\x01CT", &mut [0; 2]).unwrap_err();

@@ -46,8 +46,8 @@ fn busy() -> Vec<u64> {
     words
 }
 
-/// Sparse: about 100 of the 2,016 pairs a tick, each kept into the next with probability 0.8; busy; dense: all pairs all day; random: one half; and
-/// persistent: nine tenths, each pair keeping its state with probability 0.8.
+/// Sparse: about 100 of the 2,016 pairs a tick, each kept into the next with probability 0.8; busy; dense: all pairs all day; random: one half;
+/// persistent: nine tenths, each pair keeping its state with probability 0.8; and empty: no contact at all.
 pub fn all() -> Vec<(&'static str, Vec<u64>)> {
     vec![
         ("sparse", pairs(1, 49_600, 80)),
@@ -55,5 +55,6 @@ pub fn all() -> Vec<(&'static str, Vec<u64>)> {
         ("dense", pairs(2, 1_000_000, 0)),
         ("random", pairs(3, 500_000, 0)),
         ("persistent", pairs(4, 900_000, 80)),
+        ("empty", vec![0; ward::WORDS]),
     ]
 }

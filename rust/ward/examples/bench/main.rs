@@ -1,7 +1,8 @@
 //! Compares the plain report with baselines in Rust and with the engine's own report under thresholds, and measures the plan around badges 0 and 1 in
-//! 8 parts, the core numbers of ticks 0 to 3, write, and read and tidy of the day's log, on days of 64 badges and 96 ticks from a fixed generator.
-//! Medians of wall time, and ratios, in one run. Every baseline does the checks 10, 8, 11 and 9 and the encoding, as the engine does, and its bytes are
-//! compared with the engine's first. Buffers are not cleared between calls.
+//! 8 parts, the core numbers of ticks 0 to 3, write, read and tidy of the day's log, and the join of the logs of 2 and of 4 receivers at quorum 2 beside
+//! the reads of the same logs, one after the other, on days of 64 badges and 96 ticks from a fixed generator. Medians of wall time, and ratios, in one
+//! run. Every baseline does the checks 10, 8, 11 and 9 and the encoding, as the engine does, and its bytes are compared with the engine's first. Buffers
+//! are not cleared between calls.
 //!
 //!     cargo run --offline --release --example bench            the tables
 //!     cargo run --offline --release --example bench -- W C     one call, for an instruction count: workload W, call C
@@ -10,6 +11,7 @@ mod baselines;
 mod days;
 #[path = "../../tests/all/support/random.rs"]
 mod random;
+mod receivers;
 
 use std::time::Instant;
 
@@ -32,12 +34,28 @@ const REPORTS: [(&str, Report); 5] = [
     ("bitsets", baselines::bitsets::report),
     ("filtered", filtered),
 ];
-const OTHERS: [&str; 5] = ["plan", "numbers", "write", "read", "tidy"];
+const OTHERS: [&str; 9] = ["plan", "numbers", "write", "read", "tidy", "reads2", "join2", "reads4", "join4"];
 
-/// A call on one day with buffers of its own, to be made so often as one likes: the number of bytes, or of contact records, that it gives.
+/// A call on one day with buffers of its own, to be made so often as one likes: the number of bytes, of contact records, or of words, that it gives.
 type Call<'a> = Box<dyn FnMut() -> usize + 'a>;
 
-/// The call of a name; none for write, read and tidy where the day has no log, having more than 8,000 runs.
+/// The logs of receivers, read one after the other.
+fn reads(logs: Vec<Vec<u8>>) -> Call<'static> {
+    let mut words = vec![0; ward::WORDS];
+    Box::new(move || logs.iter().map(|log| ward::read(log, &mut words).expect("a log").contacts).sum())
+}
+
+/// The logs of receivers, joined at quorum 2.
+fn join(logs: Vec<Vec<u8>>) -> Call<'static> {
+    let lengths: Vec<usize> = logs.iter().map(Vec::len).collect();
+    let (logs, mut words, mut work) = (logs.concat(), vec![0; ward::WORDS], vec![0; ward::JOIN_WORK_WORDS]);
+    Box::new(move || {
+        let day = ward::join(&logs, &lengths, 2, &mut words, &mut work).expect("logs of one shift");
+        day.badges * day.ticks
+    })
+}
+
+/// The call of a name; none where it needs the day's log and the day has none, having more than 8,000 runs.
 fn ready<'a>(name: &str, words: &'a [u64]) -> Option<Call<'a>> {
     if let Some(&(_, report)) = REPORTS.iter().find(|r| r.0 == name) {
         let mut out = vec![0; ward::REPORT_BYTES];
@@ -57,6 +75,10 @@ fn ready<'a>(name: &str, words: &'a [u64]) -> Option<Call<'a>> {
         "write" => Some(Box::new(move || ward::write(words, 64, 96, &mut out).expect("a day with a log"))),
         "read" => Some(Box::new(move || ward::read(&log, &mut work).expect("a log").contacts)),
         "tidy" => Some(Box::new(move || ward::tidy(&log, &mut work, &mut out).expect("a log"))),
+        "reads2" => Some(reads(receivers::logs(&log, 2))),
+        "reads4" => Some(reads(receivers::logs(&log, 4))),
+        "join2" => Some(join(receivers::logs(&log, 2))),
+        "join4" => Some(join(receivers::logs(&log, 4))),
         _ => panic!("no call {name}"),
     }
 }

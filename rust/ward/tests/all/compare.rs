@@ -1,11 +1,12 @@
 //! Every call against the model: random inputs, long and short, valid and damaged, all sizes.
 
 use crate::model::{self, PLAIN};
-use crate::support::calls::{day_of, read, tidy};
+use crate::support::calls::{day_of, join, read, tidy};
 use crate::support::days::random_day;
 use crate::support::handed::Handed;
-use crate::support::logs::{damage, random_log};
+use crate::support::logs::{damage, long, random_log};
 use crate::support::random::Random;
+use crate::support::receivers::{damage_one, end_to_end, join_all, random_receivers, resize_one};
 use crate::support::seen::all_seen;
 use crate::thresholds::random_least;
 use crate::tidying::settles;
@@ -82,6 +83,59 @@ fn longest_logs() {
     }
     all_seen("read", &[1, 5, 8]);
     all_seen("tidy", &[1, 5, 8, 9]);
+}
+
+/// Receivers of a random day, with about as many words or work words lent as they need. In half of the cases there are faults: another n or T in one log, a
+/// damaged log or another number of logs, a quorum out of its limits, a length changed in one bit; sometimes several of these.
+fn compare_random_receivers(random: &mut Random, n: usize, ticks: usize, most: usize) {
+    let mut logs = random_receivers(random, n, ticks, most);
+    let mut quorum = 1 + random.below(logs.len());
+    if random.below(8) == 0 {
+        resize_one(random, &mut logs);
+    }
+    if random.below(3) == 0 {
+        damage_one(random, &mut logs);
+    }
+    if random.below(16) == 0 {
+        quorum = [0, logs.len() + 1, usize::MAX][random.below(3)];
+    }
+    let (bytes, mut lengths) = end_to_end(&logs);
+    if random.below(16) == 0 && !lengths.is_empty() {
+        let at = random.below(lengths.len());
+        lengths[at] ^= 1 << random.below(64);
+    }
+    let (mut lent, mut work) = (n * ticks, logs.len() * n * ticks);
+    if random.below(2) == 0 {
+        lent = near(random, lent);
+    } else {
+        work = near(random, work);
+    }
+    _ = join(&bytes, &lengths, quorum, lent, work);
+}
+
+#[test]
+fn receivers() {
+    let mut random = Random(7);
+    for _ in 0..40_000 {
+        let (n, ticks) = (1 + random.below(7), 1 + random.below(6));
+        compare_random_receivers(&mut random, n, ticks, 100);
+    }
+    assert_eq!(join_all(&[long(4, 3, 8000), long(4, 3, 8001)], 1, 12, 24), Err((5, 96014)));
+    all_seen("join", &[1, 2, 3, 4, 5, 6, 7, 8, 18, 19]);
+}
+
+/// Every number of ticks and every number of badges, in two pairings; and the largest.
+#[test]
+fn receivers_of_all_sizes() {
+    let mut random = Random(8);
+    for step in [7, 63] {
+        for ticks in 1..=96 {
+            compare_random_receivers(&mut random, 1 + step * ticks % 64, ticks, 8000);
+        }
+    }
+    for _ in 0..20 {
+        compare_random_receivers(&mut random, 64, 96, 8000);
+    }
 }
 
 /// A tick of the day, or one after it.

@@ -6,6 +6,9 @@ mod model;
 mod support;
 
 mod compare;
+mod join_refusals;
+mod joined;
+mod joining;
 mod largest;
 mod listing;
 mod logs;

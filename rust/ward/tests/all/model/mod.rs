@@ -2,6 +2,7 @@
 
 mod days;
 mod graphs;
+mod joining;
 mod listing;
 mod logs;
 mod records;
@@ -10,6 +11,7 @@ mod thresholds;
 
 pub use days::{Day, check};
 pub use graphs::{Graph, full};
+pub use joining::join;
 pub use listing::{group_lines, piece, refusal_lines};
 pub use logs::{judge, log_bytes};
 pub use records::{Record, plan_bytes, report_bytes};

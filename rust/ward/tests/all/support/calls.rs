@@ -1,4 +1,4 @@
-//! Read and tidy with lent memory, each against the model: the answer, and every byte and word that was lent.
+//! Read, join and tidy with lent memory, each against the model: the answer, and every byte, word and length that was lent.
 
 use super::lent::Lent;
 use super::seen::refusal;
@@ -14,6 +14,22 @@ pub fn read(log: &[u8], lent: usize) -> Result<(usize, usize, usize), Refusal> {
     words.holds(&words_of(&judged));
     bytes.is_unchanged();
     answer
+}
+
+/// The day that join makes of logs that lie end to end, lent so many words and work words: n, T and the day words. On success it leaves as many work
+/// words 0 for each log as the day has words.
+pub fn join(logs: &[u8], lengths: &[usize], quorum: usize, lent: usize, work: usize) -> Result<(usize, usize, Vec<u64>), Refusal> {
+    let judged = model::join(logs, lengths, quorum, lent, work);
+    let (mut bytes, mut sizes, mut words, mut cleared) = (Lent::holding(logs), Lent::holding(lengths), Lent::room(lent), Lent::room(work));
+    let answer = ward::join(bytes.slice(), sizes.slice(), quorum, words.slice(), cleared.slice()).map_err(|r| refusal("join", r));
+    let answer = answer.map(|day| (day.badges, day.ticks));
+    assert_eq!(answer, judged.as_ref().map(|day| (day.n, day.ticks)).map_err(|r| *r));
+    let joined = judged.map_or(Vec::new(), |day| day.words());
+    words.holds(&joined);
+    cleared.holds(&vec![0; lengths.len() * joined.len()]);
+    bytes.is_unchanged();
+    sizes.is_unchanged();
+    answer.map(|(n, ticks)| (n, ticks, joined))
 }
 
 /// The tidy log that tidy makes of a log, lent so many words and bytes. The work words hold the day once the log and 8 are passed, whatever comes of

@@ -28,6 +28,12 @@ impl Element for u64 {
     }
 }
 
+impl Element for usize {
+    fn draw(random: &mut Random) -> usize {
+        random.next() as usize
+    }
+}
+
 fn drawn<T: Element>(len: usize) -> Vec<T> {
     FILLING.with_borrow_mut(|random| (0..len).map(|_| T::draw(random)).collect())
 }

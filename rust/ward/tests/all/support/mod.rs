@@ -9,5 +9,6 @@ pub mod listings;
 pub mod logs;
 pub mod probes;
 pub mod random;
+pub mod receivers;
 pub mod refused_logs;
 pub mod seen;

@@ -1,0 +1,34 @@
+/* Joins the logs that its arguments from the second on name, of from 2 to 4 receivers of one shift, and prints the groups of the joined day: a contact
+ * counts if at least so many of the logs have it as the first argument says. Build, from the repository's root, after `rt staticlib ward`:
+ *     cc -Iinclude examples/receivers.c target/staticlib/libward.a -o receivers
+ *     ./receivers 2 examples/ward-east.log examples/ward-west.log */
+#include <stdio.h>
+#include <stdlib.h>
+
+#include "show.h"
+#include "ward.h"
+
+int main(int argc, char **argv) {
+    static uint8_t logs[4 * (WARD_LOG_BYTES + 1)], report[WARD_REPORT_BYTES];
+    static uint64_t words[WARD_WORDS], work[WARD_JOIN_WORK_WORDS];
+    size_t lengths[4], receivers = 0, size = 0;
+    uint64_t answer[5];
+    if (argc < 4 || argc > 6) {
+        fprintf(stderr, "usage: receivers QUORUM LOG LOG [LOG [LOG]]\n");
+        return 2;
+    }
+    for (int i = 2; i < argc; i++, receivers++) {
+        lengths[receivers] = read_file(argv[i], logs + size, WARD_LOG_BYTES + 1);
+        size += lengths[receivers];
+    }
+
+    ward_join(logs, size, lengths, receivers, strtoul(argv[1], NULL, 10), words, WARD_WORDS, work, WARD_JOIN_WORK_WORDS, answer);
+    check(answer);
+    size_t badges = answer[WARD_BADGES], ticks = answer[WARD_TICKS];
+
+    /* thresholds 1, 1 and 2: every group */
+    ward_report(words, WARD_WORDS, badges, ticks, 1, 1, 2, report, sizeof report, answer);
+    check(answer);
+    print_records("order", report, 4, answer[WARD_COUNT]);
+    return 0;
+}

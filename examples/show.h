@@ -1,0 +1,43 @@
+/* What the examples share: reading a file, ending where a call was refused, printing the records of a report or a plan. */
+#ifndef SHOW_H
+#define SHOW_H
+
+#include <stdio.h>
+#include <stdlib.h>
+
+#include "ward.h"
+
+/* Reads a file, or so much of it as there is room; gives how many bytes. */
+static size_t read_file(const char *name, uint8_t *bytes, size_t room) {
+    FILE *file = fopen(name, "rb");
+    if (file == NULL) {
+        perror(name);
+        exit(2);
+    }
+    size_t size = fread(bytes, 1, room, file);
+    fclose(file);
+    return size;
+}
+
+static void check(const uint64_t answer[5]) {
+    if (answer[WARD_NUMBER] != WARD_SUCCESS) {
+        printf("refused %d at %d\n", (int)answer[WARD_NUMBER], (int)answer[WARD_OFFSET]);
+        exit(1);
+    }
+}
+
+/* A record of a report or a plan has 13 bytes: a mark of two, an order or score, first and last tick, and members in eight. */
+static void print_records(const char *what, const uint8_t *bytes, size_t header, size_t size) {
+    for (size_t at = header; at + 6 < size; at += 13) {
+        uint64_t members = 0;
+        for (int i = 7; i >= 0; i--)
+            members = members * 256 + bytes[at + 5 + i];
+        printf("%s %d ticks %d to %d badges", what, bytes[at + 2], bytes[at + 3], bytes[at + 4]);
+        for (int u = 0; u < 64; u++)
+            if (members >> u & 1)
+                printf(" %d", u);
+        printf("\n");
+    }
+}
+
+#endif
