@@ -67,7 +67,7 @@ module _ {logs lengths : List ℕ} {sizes : Sizes} (t : Told logs lengths sizes)
   pub fillable : (words : ℕ) → sizes .alike ≡ true → length lengths * wordsFor (sizes .badges) (sizes .ticks) ≤ words → Fillable logs lengths (sizes .badges) (sizes .ticks) words
   fillable words e h =
       let s = size-of _ _ (t .all) (t .alike ∙ e) in
-      record { all = t .all; accepted = t .judged; badges = λ rs m. s rs m .badges ∙ t .badges; ticks = λ rs m. s rs m .ticks ∙ t .ticks; room = h }
+      record { all = t .all; accepted = t .judged; sized = λ rs m. record { badges = s rs m .badges ∙ t .badges; ticks = s rs m .ticks ∙ t .ticks }; room = h }
 
 -- What the call leaves: a log's refusal, 19, 8, or the days.
 module _ (logs lengths : List ℕ) (room : ℕ) (ws : List ℕ) where

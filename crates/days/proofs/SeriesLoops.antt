@@ -185,8 +185,7 @@ pub record Filling (logs lengths : List ℕ) (n T : ℕ) (lent words : List ℕ)
   pub place : at ≤ length logs
   pub accepted : judgeLogs 0 (parts logs lengths) ≡ success (before ++ left)
   pub judged : judgeLogs at (parts (drop at logs) (drop i lengths)) ≡ success left
-  pub badges : (rs : List Record) → List·Memᴰ rs left → badgesOf rs ≡ n
-  pub ticks : (rs : List Record) → List·Memᴰ rs left → ticksOf rs ≡ T
+  pub sized : AllSized n T left
   pub room : length lengths * wordsFor n T ≤ length lent
   pub offset : from ≡ i * wordsFor n T
   pub filled : words ≡ daysOf before ++ drop from lent
@@ -201,8 +200,7 @@ filling-none {logs} {lengths} {n} {T} {lent} a = record {
   place = omega arith;
   accepted = a .accepted;
   judged = a .accepted;
-  badges = a .badges;
-  ticks = a .ticks;
+  sized = a .sized;
   room = a .room;
   offset = sym (zero-mul (wordsFor n T));
   filled = refl;
@@ -228,7 +226,7 @@ module _ {logs lengths : List ℕ} {n T : ℕ} {lent words : List ℕ} {at from 
 
     -- it is accepted, and of this size
     pub next-accepts : Accepts (take (end - at) (drop at logs)) n T
-    next-accepts = record { records = next .first; accepted = judged-at at _ (next .first) (next .accepted); badges = f .badges _ here; ticks = f .ticks _ here }
+    next-accepts = record { records = next .first; accepted = judged-at at _ (next .first) (next .accepted); badges = f .sized _ here .badges; ticks = f .sized _ here .ticks }
 
     -- once it is filled into the words from there on, its day is there, too
     pub filling-next : (after : List ℕ)
@@ -250,12 +248,11 @@ module _ {logs lengths : List ℕ} {n T : ℕ} {lent words : List ℕ} {at from 
           place = end-inside p;
           accepted = f .accepted ∙ ap success (ap (λ (x : List (List Record)). f .before ++ x) (sym (next .same)) ∙ sym (append-snoc (f .before) rs (next .rest)));
           judged = ap (λ (k : ℕ). judgeLogs k (parts (drop end logs) (drop (i + 1) lengths))) (sym (end-of-log p)) ∙ next .others;
-          badges = λ x m. f .badges x (subst (List·Memᴰ x) (next .same) (List·Memᴰ·tail m));
-          ticks = λ x m. f .ticks x (subst (List·Memᴰ x) (next .same) (List·Memᴰ·tail m));
+          sized = λ x m. f .sized x (subst (List·Memᴰ x) (next .same) (List·Memᴰ·tail m));
           room = f .room;
           offset = omega (arith, f .offset, add-mul i 1 (wordsFor n T), one-mul (wordsFor n T));
           filled = whole;
-          days = ap length (days-next (f .before) rs) ∙ length-append (daysOf (f .before)) (dayOf rs) ∙ ap₂ _+_ (f .days) (day-words n T rs (f .badges rs here) (f .ticks rs here));
+          days = ap length (days-next (f .before) rs) ∙ length-append (daysOf (f .before)) (dayOf rs) ∙ ap₂ _+_ (f .days) (day-words n T rs (f .sized rs here .badges) (f .sized rs here .ticks));
         }
 
   -- after the last log all days are filled

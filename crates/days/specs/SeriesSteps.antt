@@ -1,6 +1,6 @@
 -- What the parts of reading a series leave. Private functions cite them; no promise rests on them.
 use mathlib.Core.Bool.{Bool, true}
-use mathlib.Core.List.{List, _++_, List·Memᴰ}
+use mathlib.Core.List.{List, _++_}
 use mathlib.Core.Path.{_≡_}
 use Prim.Native.Nat.{ℕ, zero, suc, _*_, _≤_}
 use lib.Dec.{eqb}
@@ -9,11 +9,10 @@ use Rattle.sets.specs.Bools.{_and_}
 use Rattle.records.specs.declared.record.Record.{Record}
 use Rattle.records.specs.Limits.{wordsFor}
 use Rattle.records.specs.Outcomes.{Outcome, success, andThen, refusedBy}
-use Rattle.records.specs.Meaning.{badgesOf, ticksOf}
 use Rattle.days.specs.declared.sizes.Sizes.{Sizes}
 use Rattle.days.specs.declared.series.Judged.{Judged}
 use Rattle.days.specs.declared.series.Judged.the-variants as j
-use Rattle.days.specs.Series.{parts, judgeLogs, badgesIn, ticksIn, haveSize, daysOf}
+use Rattle.days.specs.Series.{parts, judgeLogs, badgesIn, ticksIn, AllSized, haveSize, daysOf}
 
 -- the size of the first log, and whether the others have it, after one log more that follows so many
 unfoldable pub stillAlike : Sizes → ℕ → ℕ → Bool
@@ -38,8 +37,7 @@ sizesOutcome (j.Refused x) = refusedBy x
 pub record Fillable (logs lengths : List ℕ) (n T words : ℕ) : Type 0 where
   pub all : List (List Record)
   pub accepted : judgeLogs 0 (parts logs lengths) ≡ success all
-  pub badges : (rs : List Record) → List·Memᴰ rs all → badgesOf rs ≡ n
-  pub ticks : (rs : List Record) → List·Memᴰ rs all → ticksOf rs ≡ T
+  pub sized : AllSized n T all
   pub room : length lengths * wordsFor n T ≤ words
 
 -- Words that hold the days of accepted logs, and are as they were lent after them.
