@@ -13,7 +13,7 @@ use Rattle.records.specs.Verdicts.{valuesOf}
 use Rattle.records.specs.Logs.{logRecords}
 use Rattle.days.specs.Days.{neighbours, adjacent, tickWords, dayWords, dayOf, isTick, isDay}
 use Rattle.days.specs.Calls.{readJudged, readOf, checkOf}
-use Rattle.days.specs.Series.{parts, judgeLogs, badgesIn, ticksIn, haveSize, judgeSeries, commonSize}
+use Rattle.series.specs.Series.{parts, judgeLogs, badgesIn, ticksIn, haveSize, judgeSeries, commonSize}
 use Rattle.receivers.specs.Joining.{sum, joinable, judgeJoin, heardBy, quorum, joinedDay, joinJudged, joinOf}
 use Rattle.log.specs.Tidy.{runStart, runEnds, runAt, runsOf, rowRuns, tidyContacts, tidyLog}
 use Rattle.log.specs.Buffers.{deliver}

@@ -7,7 +7,7 @@ use lib.ListN.{length}
 use Rattle.records.specs.Outcomes.{Outcome}
 use Rattle.records.specs.Verdicts.{Values}
 use Rattle.days.specs.Calls.{readOf}
-use Rattle.days.specs.Series.{Size}
+use Rattle.series.specs.Series.{Size}
 use Rattle.receivers.specs.Joining.{joinOf}
 use Rattle.log.specs.Calls.{tidyOf, writeOf}
 use Rattle.thresholds.specs.declared.Thresholds.{Thresholds}

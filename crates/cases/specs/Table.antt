@@ -5,7 +5,7 @@ use Prim.Native.Nat.{ℕ}
 use lib.ListN.{replicate}
 use Rattle.records.specs.Outcomes.{Outcome, refused, success}
 use Rattle.records.specs.Verdicts.{Values}
-use Rattle.days.specs.Series.{Size}
+use Rattle.series.specs.Series.{Size}
 use Rattle.thresholds.specs.Ranges.{plain}
 use Rattle.promises.specs.D1.{badges, d1Words}
 use Rattle.cases.specs.RecordBytes.{BH, CT, ED, RH, GR, PH, PT}

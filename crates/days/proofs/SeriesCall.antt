@@ -12,9 +12,10 @@ use Rattle.records.proofs.Outcomes.{refused-success, refused-same, success-same
 use Rattle.records.proofs.Accepting.{accepted-of}
 use Rattle.records.proofs.WithinLimits.{limits-of, words-most}
 use Rattle.days.specs.declared.sizes.Sizes.{Sizes}
-use Rattle.days.specs.Series.{parts, judgeLogs, badgesIn, ticksIn, haveSize, daySize, allSize, judgeSeries, Size, commonSize, daysOf, SeriesRead, seriesJudged, readSeriesOf}
+use Rattle.series.specs.Series.{parts, judgeLogs, badgesIn, ticksIn, haveSize, daySize, allSize, judgeSeries, Size, commonSize}
+use Rattle.days.specs.Series.{daysOf, SeriesRead, seriesJudged, readSeriesOf}
 use Rattle.days.specs.SeriesSteps.{sizesIn, sizesOf, Fillable, Filled}
-use Rattle.days.proofs.SeriesJudged.{size-of, fronted, records-count, parts-count, series-refused, series-different, series-little, series-few, series-success}
+use Rattle.series.proofs.SeriesJudged.{size-of, fronted, records-count, parts-count, series-refused, series-different, series-little, series-few, series-success}
 
 abbrev pub left : Outcome Size → List ℕ → SeriesRead
 left answer words = record { answer = answer; words = words }

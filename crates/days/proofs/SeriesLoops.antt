@@ -19,11 +19,12 @@ use Rattle.records.proofs.Shifting.{judged-at}
 use Rattle.days.specs.declared.sizes.Sizes.{Sizes}
 use Rattle.days.specs.Days.{dayOf}
 use Rattle.days.specs.Filling.{Accepts}
-use Rattle.days.specs.Series.{parts, judgeLogs, AllSized, daysOf}
+use Rattle.series.specs.Series.{parts, judgeLogs, AllSized}
+use Rattle.days.specs.Series.{daysOf}
 use Rattle.days.specs.SeriesSteps.{compared, sizesIn, sizesOf, Fillable, Filled}
 use Rattle.days.proofs.Days.{day-length, tick-fits}
 use Rattle.days.proofs.ReadCall.{Valued}
-use Rattle.days.proofs.SeriesJudged.{Fronted, fronted}
+use Rattle.series.proofs.SeriesJudged.{Fronted, fronted}
 use Rattle.days.proofs.SeriesSizes.{known-none, known-next}
 
 -- as many elements as are there

@@ -13,9 +13,9 @@ use Rattle.sets.proofs.Bools.{same-test, and-in, and-left, and-right}
 use Rattle.records.specs.declared.record.Record.{Record}
 use Rattle.records.specs.Meaning.{badgesOf, ticksOf}
 use Rattle.days.specs.declared.sizes.Sizes.{Sizes}
-use Rattle.days.specs.Series.{badgesIn, ticksIn, Sized, haveSize}
+use Rattle.series.specs.Series.{badgesIn, ticksIn, Sized, haveSize}
 use Rattle.days.specs.SeriesSteps.{stillAlike, compared, sizesIn}
-use Rattle.days.proofs.SeriesJudged.{size-of, size-in}
+use Rattle.series.proofs.SeriesJudged.{size-of, size-in}
 
 -- one log more at the end
 have-next : (n T : ℕ) (all : List (List Record)) (rs : List Record) → (eqb (badgesOf rs) n and eqb (ticksOf rs) T and haveSize n T all) ≡ haveSize n T (all ++ rs ∷ [])

@@ -10,9 +10,10 @@ use Rattle.records.specs.declared.record.Record.{Record}
 use Rattle.records.specs.Limits.{wordsFor}
 use Rattle.records.specs.Outcomes.{Outcome, success, andThen, refusedBy}
 use Rattle.days.specs.declared.sizes.Sizes.{Sizes}
-use Rattle.days.specs.declared.series.Judged.{Judged}
-use Rattle.days.specs.declared.series.Judged.the-variants as j
-use Rattle.days.specs.Series.{parts, judgeLogs, badgesIn, ticksIn, AllSized, haveSize, daysOf}
+use Rattle.days.specs.declared.several.Judged.{Judged}
+use Rattle.days.specs.declared.several.Judged.the-variants as j
+use Rattle.series.specs.Series.{parts, judgeLogs, badgesIn, ticksIn, AllSized, haveSize}
+use Rattle.days.specs.Series.{daysOf}
 
 -- the size of the first log, and whether the others have it, after one log more that follows so many
 unfoldable pub stillAlike : Sizes → ℕ → ℕ → Bool

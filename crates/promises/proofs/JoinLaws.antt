@@ -20,9 +20,9 @@ use Rattle.records.proofs.Shifting.{judged-at}
 use Rattle.records.proofs.Theorems.{accepted-log}
 use Rattle.days.specs.Days.{neighbours, LentDay}
 use Rattle.days.specs.Calls.{Read}
-use Rattle.days.specs.Series.{parts, judgeLogs, badgesIn, ticksIn, AllSized, Size, commonSize}
+use Rattle.series.specs.Series.{parts, judgeLogs, badgesIn, ticksIn, AllSized, Size, commonSize}
 use Rattle.days.proofs.Days.{neighbours-take, same-words}
-use Rattle.days.proofs.SeriesJudged.{fronted, records-count, parts-count, series-passed}
+use Rattle.series.proofs.SeriesJudged.{fronted, records-count, parts-count, series-passed}
 use Rattle.receivers.specs.Joining.{sum, Join, joinOf}
 use Rattle.receivers.proofs.JoinCall.{succeeded}
 use Rattle.promises.specs.Reading.{HoldsDay, Reads}

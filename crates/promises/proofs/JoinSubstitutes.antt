@@ -23,7 +23,7 @@ use Rattle.records.proofs.Numbers.{judge-number}
 use Rattle.records.proofs.Shifting.{judge-shifted}
 use Rattle.records.proofs.Theorems.{log-accepted}
 use Rattle.days.specs.Days.{neighbours, tickWords, dayWords}
-use Rattle.days.specs.Series.{parts, judgeLogs, badgesIn, ticksIn, haveSize, daySize, allSize, judgeSeries, Size, commonSize}
+use Rattle.series.specs.Series.{parts, judgeLogs, badgesIn, ticksIn, haveSize, daySize, allSize, judgeSeries, Size, commonSize}
 use Rattle.receivers.specs.Joining.{sum, Joinable, joinable, judgeJoin, Join, joinOf}
 use Rattle.promises.specs.Joining.{none, more, AtLeast, enough, counted, passed, MetBy, JoinAsked, OneSize, JoinRefusal, by-log, by-19, Joins}
 use Rattle.promises.proofs.SmallLogs.{meeting, never, once, twice, bytesOf, never-log, once-log, twice-log, met}

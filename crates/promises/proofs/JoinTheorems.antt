@@ -25,10 +25,10 @@ use Rattle.records.proofs.Grammar.{grammar-accepted}
 use Rattle.records.proofs.Theorems.{log-length, met-below, met-apart}
 use Rattle.days.specs.Days.{neighbours, adjacent, dayWords, LentDay}
 use Rattle.days.specs.Calls.{Read, checkOf}
-use Rattle.days.specs.Series.{parts, judgeLogs, badgesIn, ticksIn, Sized, AllSized, haveSize, daySize, allSize, Size, commonSize}
+use Rattle.series.specs.Series.{parts, judgeLogs, badgesIn, ticksIn, Sized, AllSized, haveSize, daySize, allSize, Size, commonSize}
 use Rattle.days.proofs.Days.{day-length, neighbours-append, in-day, of-day, relation-day, day-head}
 use Rattle.days.proofs.Checks.{check-day}
-use Rattle.days.proofs.SeriesJudged.{size-of, size-in, first-sized, records-count, parts-count, each-accepted, Passed, series-passed, series-refused, series-different, series-little, series-few, series-success}
+use Rattle.series.proofs.SeriesJudged.{size-of, size-in, first-sized, records-count, parts-count, each-accepted, Passed, series-passed, series-refused, series-different, series-little, series-few, series-success}
 use Rattle.log.specs.Tidy.{tidyContacts}
 use Rattle.log.specs.Buffers.{Delivered}
 use Rattle.thresholds.specs.declared.Thresholds.{Thresholds}

@@ -8,7 +8,7 @@ use Rattle.records.specs.declared.record.Record.{Record}
 use Rattle.records.specs.Limits.{wordsFor}
 use Rattle.records.specs.Outcomes.{refused, success}
 use Rattle.records.specs.Logs.{IsLog, Met}
-use Rattle.days.specs.Series.{parts, judgeLogs, badgesIn, ticksIn, AllSized, daySize, allSize}
+use Rattle.series.specs.Series.{parts, judgeLogs, badgesIn, ticksIn, AllSized, daySize, allSize}
 use Rattle.receivers.specs.Joining.{minLogs, maxLogs, Joinable, Join}
 use Rattle.promises.specs.Reading.{HoldsDay}
 

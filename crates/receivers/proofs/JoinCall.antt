@@ -8,7 +8,7 @@ use Rattle.sets.proofs.Bools.{isnt-false}
 use Rattle.records.specs.declared.record.Record.{Record}
 use Rattle.records.specs.Outcomes.{Outcome, refused, success, refuseIf}
 use Rattle.records.proofs.Outcomes.{refused-success, success-same, refuse-passed}
-use Rattle.days.specs.Series.{parts, daySize, allSize, judgeSeries, Size, commonSize}
+use Rattle.series.specs.Series.{parts, daySize, allSize, judgeSeries, Size, commonSize}
 use Rattle.receivers.specs.Joining.{Joinable, judgeJoin, joinedDay, Join, joinJudged, joinOf}
 use Rattle.receivers.proofs.Sums.{joinable-of, joinable-in, joinable-not}
 

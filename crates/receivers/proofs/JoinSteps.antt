@@ -8,8 +8,9 @@ use lib.Seq.{drop-at}
 use Rattle.records.specs.declared.record.Record.{Record}
 use Rattle.records.specs.Limits.{wordsFor}
 use Rattle.records.specs.Outcomes.{Outcome, refused, success}
-use Rattle.days.specs.Series.{parts, badgesIn, ticksIn, AllSized, daySize, allSize, judgeSeries, Size, commonSize, daysOf, readSeriesOf}
-use Rattle.days.proofs.SeriesJudged.{series-passed, records-count, parts-count}
+use Rattle.series.specs.Series.{parts, badgesIn, ticksIn, AllSized, daySize, allSize, judgeSeries, Size, commonSize}
+use Rattle.days.specs.Series.{daysOf, readSeriesOf}
+use Rattle.series.proofs.SeriesJudged.{series-passed, records-count, parts-count}
 use Rattle.days.proofs.SeriesLoops.{days-length}
 use Rattle.days.proofs.SeriesCall.{answer-refused, answer-read}
 use Rattle.receivers.specs.Joining.{Joinable, joinedDay, Join, joinOf}

@@ -18,7 +18,8 @@ use Rattle.records.specs.declared.record.Record.{Record}
 use Rattle.records.specs.Limits.{wordsFor}
 use Rattle.records.specs.Meaning.{inContact}
 use Rattle.days.specs.Days.{neighbours, dayWords, dayOf}
-use Rattle.days.specs.Series.{Sized, AllSized, daysOf}
+use Rattle.series.specs.Series.{Sized, AllSized}
+use Rattle.days.specs.Series.{daysOf}
 use Rattle.days.proofs.Days.{in-day, of-day, day-by, neighbours-take}
 use Rattle.receivers.specs.Joining.{heardBy, quorum}
 use Rattle.receivers.specs.Counting.{countAt, Combined}

@@ -11,7 +11,7 @@ use Rattle.records.specs.declared.record.Record.{Record}
 use Rattle.records.specs.Outcomes.{Outcome, refused, success, refuseIf}
 use Rattle.records.specs.Meaning.{inContact}
 use Rattle.days.specs.Days.{dayWords}
-use Rattle.days.specs.Series.{parts, badgesIn, ticksIn, daySize, allSize, judgeSeries, Size, commonSize}
+use Rattle.series.specs.Series.{parts, badgesIn, ticksIn, daySize, allSize, judgeSeries, Size, commonSize}
 
 -- "From 2 to 4 logs"
 abbrev pub minLogs : ℕ

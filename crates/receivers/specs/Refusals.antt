@@ -2,7 +2,7 @@
 use Prim.Native.Nat.{ℕ}
 use Rattle.records.specs.Outcomes as log
 use Rattle.records.specs.Outcomes.{Outcome, refused, success}
-use Rattle.days.specs.Series.{Size}
+use Rattle.series.specs.Series.{Size}
 use Rattle.receivers.specs.declared.refusal.Refusal.{Refusal}
 use Rattle.receivers.specs.declared.refusal.Refusal.the-variants as r
 use Rattle.receivers.specs.declared.answer.Joined.{Joined}

@@ -5,7 +5,7 @@ use mathlib.Core.List.{List, [], _∷_}
 use Prim.Native.Nat.{ℕ}
 use Rattle.records.specs.Outcomes.{Outcome, refused, success}
 use Rattle.records.specs.Verdicts.{Values}
-use Rattle.days.specs.Series.{Size}
+use Rattle.series.specs.Series.{Size}
 
 abbrev pub refusedAnswer : ℕ → ℕ → List ℕ
 refusedAnswer number offset = number ∷ offset ∷ 0 ∷ 0 ∷ 0 ∷ []

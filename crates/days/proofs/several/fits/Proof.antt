@@ -7,8 +7,8 @@ use native.Mathlib.Omega.{arith}
 use lib.Dec.{leb}
 use borrow.Author.Tests.{leb-true, le-leb}
 use Rattle.sets.proofs.Bools.{same-test}
-use Rattle.days.proofs.series.fits.Statement.{statement}
-use Rattle.days.proofs.series.fits.Tie as tie
+use Rattle.days.proofs.several.fits.Statement.{statement}
+use Rattle.days.proofs.several.fits.Tie as tie
 
 divided : (count size words : ℕ) → 0 < size → leb count (words / size) ≡ leb (count * size) words
 divided count size words h = same-test _ _

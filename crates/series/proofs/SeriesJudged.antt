@@ -13,7 +13,7 @@ use Rattle.records.specs.Outcomes.{refused, success, refuseIf, andThen}
 use Rattle.records.specs.Judging.{start, judgeFrom}
 use Rattle.records.proofs.Outcomes.{success-same, refuse-passed, then-passed}
 use Rattle.records.proofs.Accepting.{Accepted, accepted-of}
-use Rattle.days.specs.Series.{parts, judgeLogs, badgesIn, ticksIn, Sized, AllSized, haveSize, daySize, allSize, judgeSeries}
+use Rattle.series.specs.Series.{parts, judgeLogs, badgesIn, ticksIn, Sized, AllSized, haveSize, daySize, allSize, judgeSeries}
 
 -- the test passes exactly when every log has the size
 pub size-of : (n T : ℕ) (all : List (List Record)) → haveSize n T all ≡ true → AllSized n T all

@@ -9,8 +9,8 @@ use Rattle.records.specs.Limits.{wordsFor}
 use Rattle.records.proofs.Verdicts.{rest-is}
 use Rattle.days.specs.Days.{dayOf}
 use Rattle.days.proofs.SeriesLoops.{Lies, put-back, Filling, filling-none, filling-long, words-fit, next-accepts, filling-next, filling-done}
-use Rattle.days.proofs.series.fill_all.Statement.{statement}
-use Rattle.days.proofs.series.fill_all.Tie as tie
+use Rattle.days.proofs.several.fill_all.Statement.{statement}
+use Rattle.days.proofs.several.fill_all.Tie as tie
 
 abbrev Inv-loop : tie.InvT-loop
 Inv-loop logs lengths badges ticks words₀ at₀ from₀ i₀ i-end words at from i = (i-end ≡ length lengths) × Filling logs lengths badges ticks words₀ words at from i

@@ -1,8 +1,8 @@
 -- `end_of` meets its contract: the lesser of the length and what is left is taken.
 use native.Mathlib.Omega.{arith}
 use borrow.Author.Needs.{needs}
-use Rattle.days.proofs.series.end_of.Statement.{statement}
-use Rattle.days.proofs.series.end_of.Tie as tie
+use Rattle.days.proofs.several.end_of.Statement.{statement}
+use Rattle.days.proofs.several.end_of.Tie as tie
 
 sub-if1 : tie.Need-sub-if1
 sub-if1 c = search needs

@@ -10,8 +10,8 @@ use Rattle.records.specs.Judging.{start, judgeFrom}
 use Rattle.records.specs.Verdicts.{verdictOutcome, verdictOf}
 use Rattle.days.proofs.SeriesLoops.{Lies, end-inside, lies-part, Judging, judging-none, judging-refused, judging-next, judging-done, sizes-refused, sizes-accepted}
 use Rattle.days.proofs.ReadCall.{verdict-refused, valued}
-use Rattle.days.proofs.series.judge_all.Statement.{statement}
-use Rattle.days.proofs.series.judge_all.Tie as tie
+use Rattle.days.proofs.several.judge_all.Statement.{statement}
+use Rattle.days.proofs.several.judge_all.Tie as tie
 
 abbrev Inv-loop : tie.InvT-loop
 Inv-loop logs lengths sizes₀ at₀ i₀ sizes at i = Judging logs lengths sizes at i

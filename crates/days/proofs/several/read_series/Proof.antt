@@ -5,8 +5,8 @@ use borrow.Author.Needs.{needs}
 use borrow.Author.Tests.{not-true, not-false, leb-true, leb-false}
 use Rattle.days.specs.SeriesSteps.{sizesOutcome}
 use Rattle.days.proofs.SeriesCall.{leaves, sizes-refused-of, Told, sizes-told, told-most, call-refused, call-different, call-little, call-few, fillable, call-read}
-use Rattle.days.proofs.series.read_series.Statement.{statement}
-use Rattle.days.proofs.series.read_series.Tie as tie
+use Rattle.days.proofs.several.read_series.Statement.{statement}
+use Rattle.days.proofs.several.read_series.Tie as tie
 
 -- what judging told of accepted logs
 told : (c : tie.After-sizes) → let a = c .before .before .before .before .before .before .args in Told (a .logs .now) (a .lengths .now) (c .sizes .given .0 .0)
