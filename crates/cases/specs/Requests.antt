@@ -21,7 +21,7 @@ unfoldable pub nobody : List ℕ
 nobody = RH 4 3 ++ ED 0
 
 -- "D1 .. contacts 0–1, 0–2 and 1–2 in ticks 0 to 1, and 2–3 in ticks 0 to 2", heard by a receiver that misses 0–1 and names the others from the other side;
--- by one that hears 2–3 alone, and says it twice; D1's contacts in a day of 4 ticks; and no contacts
+-- by one that hears 2–3 alone, and says it twice; and D1's contacts in a day of 4 ticks
 unfoldable pub missing : List ℕ
 missing = BH 4 3 ++ CT 3 2 0 2 ++ CT 2 0 0 1 ++ CT 2 1 0 1 ++ ED 3
 
