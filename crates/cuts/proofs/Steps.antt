@@ -2,24 +2,32 @@
 use mathlib.Core.Path.{_≡_, refl, sym, ap, ap₂, _∙_}
 use mathlib.Core.List.{List, [], _∷_, _++_}
 use mathlib.Core.Logic.{_⊎_, inl, inr}
-use Prim.Native.Nat.{ℕ, zero, suc, _+_, _-_, _*_, _≤_, _<_}
-use native.Mathlib.Nat.{eq-or-lt-of-le}
+use Prim.Native.Nat.{ℕ, zero, suc, _+_, _-_, _*_, _≤_, _<_, zero-le, suc-le-suc}
+use native.Mathlib.Nat.{le-trans, eq-or-lt-of-le}
 use native.Mathlib.Numerals.{add-one}
 use native.Mathlib.Omega.{arith}
 use lib.ListN.{length, getD, set, replicate, length-set, length-append}
 use lib.Seq.{getD-set-same, getD-set-other, set-at, append-snoc}
 use borrow.Author.Tests.{lt-ltb, le-ltb}
 use Rattle.cuts.specs.Sums.{firstGreatest, sumWith, laterEnds, bestSum, endAfter, endsFrom, bestEnds, tableScore}
-use Rattle.cuts.specs.Steps.{rowSum, runSum, IsRunSum, Entry, Filled}
+use Rattle.cuts.specs.Steps.{rowSum, runSum, SmallAfter, IsGreatestSum, Entry, Filled}
 use Rattle.cuts.proofs.Sums.{greatest-take, greatest-keep, greatest-same, is-greatest, best-sum-suc, end-greatest}
 
 -- ---- trying the ends of a run
 
+-- what row c has for the runs after an end e
+after-in : (sums : List ℕ) (c e : ℕ) → getD sums (c * 96 + 1 + e) 0 ≡ rowSum sums c (suc e)
+unfolding rowSum
+after-in sums c e = let q : c * 96 + 1 + e ≡ c * 96 + suc e = omega arith in rw q
+
 -- a score and an entry of the table, added, are the sum of a run and those after it
-pub run-sum-in : (scores sums : List ℕ) (c t e r : ℕ) → (r ≡ getD scores (t * 96 + e) 0 + getD sums (c * 96 + (e + 1)) 0) × (r ≤ 255 + getD sums (c * 96 + (e + 1)) 0)
-    → IsRunSum scores sums c t e r
-unfolding rowSum sumWith tableScore
-run-sum-in scores sums c t e r p = let q = rw add-one at p in record { sum = q .0; small = q .1 }
+pub run-sum-in : (scores sums : List ℕ) (c t e : ℕ) {x : ℕ} → x ≡ getD scores (t * 96 + e) 0 → x + getD sums (c * 96 + 1 + e) 0 ≡ runSum scores sums c t e
+unfolding sumWith tableScore
+run-sum-in scores sums c t e q = rw (q, after-in sums c e)
+
+-- and that entry is small
+pub small-in : {sums : List ℕ} {c t stop e : ℕ} → SmallAfter sums c t stop → t ≤ e → e < stop → getD sums (c * 96 + 1 + e) 0 ≤ 255 * suc c
+small-in {sums} {c} {e = e} a l m = rw (after-in sums c e) (a .at e l m)
 
 -- of the ends t to e - 1, `end` is the first at which g is greatest, and there it is `greatest`
 pub record Tried (g : ℕ → ℕ) (t e end greatest : ℕ) : Type 0 where
@@ -57,17 +65,47 @@ tried-all stop s q = rw q at (s .first)
 pub end-in : (g : ℕ → ℕ) (t stop end : ℕ) → t < stop → end ≡ firstGreatest g t (stop - suc t) → (t ≤ end) × (end < stop)
 end-in g t stop end l q = let p = is-greatest g t (stop - suc t) in (omega (arith, p .low), omega (arith, p .high))
 
--- and leaves c + 1 ticks or more, where it was to leave them
-end-fits : (g : ℕ → ℕ) (T c t end : ℕ) → t + suc c < T → end ≡ firstGreatest g t (T - c - 1 - suc t) → suc end + c < T
-end-fits g T c t end h q = let i = end-in g t (T - c - 1) end (omega arith) q .1 in omega arith
+-- and leaves c + 1 ticks or more, where those tried leave them
+end-fits : (g : ℕ → ℕ) (T c t end : ℕ) → t + suc c < T → end ≡ firstGreatest g t (T - c - 1 - suc t) → (t ≤ end) × (suc end + c < T)
+end-fits g T c t end h q = let i = end-in g t (T - c - 1) end (omega arith) q in (i .0, omega arith)
+
+-- ---- the greatest sum, with no end
+
+-- of the sums at t to e - 1 none exceeds `greatest`, which does not exceed the greatest of those at t to stop - 1
+pub record Summed (g : ℕ → ℕ) (t stop e greatest : ℕ) : Type 0 where
+  pub most : (d : ℕ) → t ≤ d → d < e → g d ≤ greatest
+  pub least : greatest ≤ g (firstGreatest g t (stop - suc t))
+
+-- before the first sum, after one sum more, and after the last
+pub summed-none : {g : ℕ → ℕ} {t stop : ℕ} → Summed g t stop t 0
+summed-none = record { most = λ d l m. absurd (omega arith); least = zero-le }
+
+module _ {g : ℕ → ℕ} {t stop e greatest x : ℕ} (s : Summed g t stop e greatest) (v : x ≡ g e) where
+  summed-with : {y : ℕ} → greatest ≤ y → x ≤ y → y ≤ g (firstGreatest g t (stop - suc t)) → Summed g t stop (e + 1) y
+  summed-with {y} a b z = record { most = λ d l m. go d l (eq-or-lt-of-le (let n : suc d ≤ suc e = omega arith in n)); least = z }
+    where
+      go : (d : ℕ) → t ≤ d → (suc d ≡ suc e) ⊎ (suc d < suc e) → g d ≤ y
+      go d l (inl q) = let p : d ≡ e = omega arith in omega (arith, ap g p)
+      go d l (inr q) = omega (arith, s .most d l (omega arith))
+
+  pub summed-take : t ≤ e → e < stop → greatest < x → Summed g t stop (e + 1) x
+  summed-take l m h = summed-with (omega arith) (omega arith) (omega (arith, is-greatest g t (stop - suc t) .most e l (omega arith)))
+
+  pub summed-keep : x ≤ greatest → Summed g t stop (e + 1) greatest
+  summed-keep h = summed-with (omega arith) h (s .least)
+
+pub summed-all : {g : ℕ → ℕ} {t stop e greatest : ℕ} → Summed g t stop e greatest → t < stop → stop ≤ e → greatest ≡ g (firstGreatest g t (stop - suc t))
+summed-all {g} {t} {stop} s l h =
+    let p = is-greatest g t (stop - suc t) in
+    omega (arith, s .least, s .most (firstGreatest g t (stop - suc t)) (p .low) (omega (arith, p .high)))
 
 -- ---- an end and its sum, from the table
 
-module _ {scores sums : List ℕ} {T k : ℕ} (c t : ℕ) (b : Filled scores T k sums) (l : c < k) (h : t + suc c < T) where
+module _ {scores sums : List ℕ} {T h k : ℕ} (c t : ℕ) (b : Filled scores T h k sums) (l : c < k) (r : h ≤ suc (t + suc c)) (f : t + suc c < T) where
   -- at every end that can be tried, the sum from the table is the sum of the definition
   table-sum : (e : ℕ) → t ≤ e → e ≤ t + laterEnds T c t → runSum scores sums c t e ≡ sumWith (tableScore scores) (bestSum (tableScore scores) T c) t e
   unfolding sumWith
-  table-sum e m n = ap (λ (x : ℕ). tableScore scores t e + x) (b .at c (suc e) l (omega arith) .best)
+  table-sum e m n = ap (λ (x : ℕ). tableScore scores t e + x) (b .at c (suc e) l (omega arith) (omega arith) .best)
 
   -- the end found from the table is the end of the definition
   table-end : (end : ℕ) → end ≡ firstGreatest (runSum scores sums c t) t (T - c - 1 - suc t) → end ≡ endAfter (tableScore scores) T c t
@@ -80,67 +118,64 @@ module _ {scores sums : List ℕ} {T k : ℕ} (c t : ℕ) (b : Filled scores T k
       let p = end-greatest (tableScore scores) T c t in
       table-sum (endAfter (tableScore scores) T c t) (p .low) (p .high) ∙ sym (best-sum-suc (tableScore scores) T c t)
 
-  -- so what the program stores for it is the greatest sum, and at most 255 for each run
-  module _ (end : ℕ) {x : ℕ} (q : end ≡ firstGreatest (runSum scores sums c t) t (T - c - 1 - suc t)) (s : IsRunSum scores sums c t end x) where
-    table-best : x ≡ bestSum (tableScore scores) T (c + 1) t
-    table-best = s .sum ∙ ap (runSum scores sums c t) (table-end end q) ∙ rw add-one table-greatest
+  -- so what the program stores is the greatest sum; and the entries that it is made from are small
+  table-best : {x : ℕ} → IsGreatestSum scores sums c t (T - c - 1) x → x ≡ bestSum (tableScore scores) T (c + 1) t
+  table-best s = s .sum ∙ ap (runSum scores sums c t) (table-end _ refl) ∙ rw add-one table-greatest
 
-    pub table-small : x ≤ 255 * suc (c + 1)
-    table-small = omega (arith, s .small, b .at c (suc end) l (end-fits _ T c t end h q) .small)
+  pub table-small : SmallAfter sums c t (T - c - 1)
+  table-small = record { at = λ e m n. b .at c (suc e) l (omega arith) (omega arith) .small }
 
 -- ---- filling the table
 
 -- the rows below k are filled, and row k below column t
-pub record PartlyFilled (scores : List ℕ) (T k t : ℕ) (sums : List ℕ) : Type 0 where
-  pub rows : Filled scores T k sums
-  pub row : (s : ℕ) → s < t → s + k < T → Entry scores T sums k s
+pub record PartlyFilled (scores : List ℕ) (T h k t : ℕ) (sums : List ℕ) : Type 0 where
+  pub rows : Filled scores T h k sums
+  pub row : (s : ℕ) → s < t → h ≤ suc (s + k) → s + k < T → Entry scores T sums k s
 
--- with no row, with no column of the next row, with one column more, and with the whole row
-pub filled-none : {scores : List ℕ} {T : ℕ} {sums : List ℕ} → length sums ≡ 9216 → Filled scores T 0 sums
-filled-none e = record { size = e; at = λ c t l r. absurd (omega arith) }
+-- with no row, with no column of the next row that is reached, with one column more, and with the whole row
+pub filled-none : {scores : List ℕ} {T h : ℕ} {sums : List ℕ} → length sums ≡ 9216 → Filled scores T h 0 sums
+filled-none e = record { size = e; at = λ c t l r f. absurd (omega arith) }
 
-pub partly-none : {scores : List ℕ} {T k : ℕ} {sums : List ℕ} → Filled scores T k sums → PartlyFilled scores T k 0 sums
-partly-none b = record { rows = b; row = λ s l r. absurd (omega arith) }
+pub partly-none : {scores : List ℕ} {T h k t : ℕ} {sums : List ℕ} → Filled scores T h k sums → t + k < h → PartlyFilled scores T h k t sums
+partly-none b m = record { rows = b; row = λ s l r f. absurd (omega arith) }
 
-module _ {scores : List ℕ} {T k t : ℕ} {sums : List ℕ} (b : PartlyFilled scores T k t sums) where
+module _ {scores : List ℕ} {T h k t : ℕ} {sums : List ℕ} (b : PartlyFilled scores T h k t sums) where
   pub partly-more : (i x : ℕ) → t + k < T → T ≤ 96 → i ≡ k * 96 + t → x ≡ bestSum (tableScore scores) T k t → x ≤ 255 * suc k
-      → PartlyFilled scores T k (t + 1) (set sums i x)
+      → PartlyFilled scores T h k (t + 1) (set sums i x)
   unfolding rowSum
-  partly-more i x h w q v m = record {
+  partly-more i x f w q v m = record {
     rows = record {
       size = length-set sums i x ∙ b .rows .size;
-      at = λ c s l r. other c s (λ z. omega arith) (b .rows .at c s l r);
+      at = λ c s l r z. other c s (λ y. omega arith) (b .rows .at c s l r z);
     };
-    row = λ s l r. go s r (eq-or-lt-of-le (let y : suc s ≤ suc t = omega arith in y));
+    row = λ s l r z. go s r z (eq-or-lt-of-le (let y : suc s ≤ suc t = omega arith in y));
   }
     where
       other : (c s : ℕ) → (c * 96 + s ≡ i → ⊥) → Entry scores T sums c s → Entry scores T (set sums i x) c s
-      other c s f n = let e = getD-set-other sums i (c * 96 + s) x 0 f in record { best = e ∙ n .best; small = omega (arith, e, n .small) }
+      other c s d n = let e = getD-set-other sums i (c * 96 + s) x 0 d in record { best = e ∙ n .best; small = omega (arith, e, n .small) }
 
       here : getD (set sums i x) (k * 96 + t) 0 ≡ x
       here = rw q (getD-set-same sums (k * 96 + t) x 0 (omega (arith, b .rows .size)))
 
-      go : (s : ℕ) → s + k < T → (suc s ≡ suc t) ⊎ (suc s < suc t) → Entry scores T (set sums i x) k s
-      go s r (inl z) = let y : s ≡ t = omega arith in rw y (record { best = here ∙ v; small = omega (arith, here) })
-      go s r (inr z) = other k s (λ y. omega arith) (b .row s (omega arith) r)
+      go : (s : ℕ) → h ≤ suc (s + k) → s + k < T → (suc s ≡ suc t) ⊎ (suc s < suc t) → Entry scores T (set sums i x) k s
+      go s r z (inl d) = let y : s ≡ t = omega arith in rw y (record { best = here ∙ v; small = omega (arith, here) })
+      go s r z (inr d) = other k s (λ y. omega arith) (b .row s (omega arith) r z)
 
-  pub partly-all : {j : ℕ} → T ≤ t + k → j ≡ k + 1 → Filled scores T j sums
-  partly-all h q = record { size = b .rows .size; at = λ c s l r. go c s r (eq-or-lt-of-le (let y : suc c ≤ suc k = omega arith in y)) }
+  pub partly-all : {j : ℕ} → T ≤ t + k → j ≡ k + 1 → Filled scores T h j sums
+  partly-all w q = record { size = b .rows .size; at = λ c s l r f. go c s r f (eq-or-lt-of-le (let y : suc c ≤ suc k = omega arith in y)) }
     where
-      go : (c s : ℕ) → s + c < T → (suc c ≡ suc k) ⊎ (suc c < suc k) → Entry scores T sums c s
-      go c s r (inl z) = let y : c ≡ k = omega arith in rw y (b .row s (omega arith) (omega arith))
-      go c s r (inr z) = b .rows .at c s (omega arith) r
+      go : (c s : ℕ) → h ≤ suc (s + c) → s + c < T → (suc c ≡ suc k) ⊎ (suc c < suc k) → Entry scores T sums c s
+      go c s r f (inl z) = let y : c ≡ k = omega arith in rw y (b .row s (omega arith) (omega arith) (omega arith))
+      go c s r f (inr z) = b .rows .at c s (omega arith) r f
 
 -- one column more of row c + 1, from row c
-pub row-more : {scores : List ℕ} {T c t : ℕ} {sums : List ℕ} (end x : ℕ) → PartlyFilled scores T (c + 1) t sums → t + suc c < T → T ≤ 96
-    → end ≡ firstGreatest (runSum scores sums c t) t (T - c - 1 - suc t) → IsRunSum scores sums c t end x
-    → PartlyFilled scores T (c + 1) (t + 1) (set sums ((c + 1) * 96 + t) x)
-row-more {scores} {T} {c} {t} end x b h w q s =
-    partly-more b _ x (omega arith) w refl (table-best c t (b .rows) (omega arith) h end q s) (table-small c t (b .rows) (omega arith) h end q s)
+pub row-more : {scores : List ℕ} {T h c t : ℕ} {sums : List ℕ} (x : ℕ) → PartlyFilled scores T h (c + 1) t sums → h ≤ suc (t + suc c) → t + suc c < T → T ≤ 96
+    → IsGreatestSum scores sums c t (T - c - 1) x → PartlyFilled scores T h (c + 1) (t + 1) (set sums ((c + 1) * 96 + t) x)
+row-more {c = c} {t = t} x b r f w s = partly-more b _ x (omega arith) w refl (table-best c t (b .rows) (omega arith) r f s) (omega (arith, s .small))
 
 -- fewer rows
-pub filled-fewer : {scores : List ℕ} {T k j : ℕ} {sums : List ℕ} → Filled scores T k sums → j ≤ k → Filled scores T j sums
-filled-fewer b h = record { size = b .size; at = λ c t l r. b .at c t (omega arith) r }
+pub filled-fewer : {scores : List ℕ} {T h k j : ℕ} {sums : List ℕ} → Filled scores T h k sums → j ≤ k → Filled scores T h j sums
+filled-fewer b m = record { size = b .size; at = λ c t l r f. b .at c t (omega arith) r f }
 
 -- row 0 has the scores of the runs up to the last tick
 pub no-cut : (scores : List ℕ) (T t x : ℕ) → x ≡ getD scores (t * 96 + (T - 1)) 0 → x ≡ bestSum (tableScore scores) T 0 t
@@ -149,10 +184,11 @@ no-cut scores T t x e = e
 
 -- ---- walking over the ends
 
--- the first i of h ends are found and held, and those from t on are the others
+-- the first i of h ends are found and held, so that t is not below i, and the ends from t on are the others
 pub record Walked (scores : List ℕ) (T h i t : ℕ) (ends : List ℕ) : Type 0 where
   pub found : List ℕ
   pub count : length found ≡ i
+  pub past : i ≤ t
   pub fits : t + (h - suc i) < T
   pub held : ends ≡ found ++ replicate (96 - i) 0
   pub rest : found ++ endsFrom (tableScore scores) T (h - suc i) t ≡ bestEnds (tableScore scores) T h
@@ -163,16 +199,20 @@ put-next found ends i e n q l =
     let g : 96 - i ≡ suc (96 - suc i) = omega arith in
     rw (q, g) (set-at found 0 (replicate (96 - suc i) 0) e i n ∙ sym (append-snoc found e (replicate (96 - suc i) 0)))
 
+-- with i runs found before t, t is a first tick that is reached with c + 1 cuts left
+reached : (h i c t : ℕ) → i < h - 1 → c ≡ h - i - 2 → i ≤ t → h ≤ suc (t + suc c)
+reached h i c t m d l = omega arith
+
 -- with no end, with one end more, and with the last one
 pub walked-none : (scores : List ℕ) (T h t : ℕ) → 1 ≤ h → h ≤ T → t ≡ 0 → Walked scores T h 0 t (replicate 96 0)
 unfolding bestEnds
 walked-none scores T zero t l w q = absurd (omega arith)
 walked-none scores T (suc c) t l w q =
     let e : suc c - 1 ≡ c = omega arith in
-    rw q (record { found = []; count = refl; fits = omega arith; held = refl; rest = rw e })
+    rw q (record { found = []; count = refl; past = zero-le; fits = omega arith; held = refl; rest = rw e })
 
 module _ {scores : List ℕ} {T h i t : ℕ} {ends : List ℕ} (w : Walked scores T h i t ends) (l : h ≤ 96) where
-  pub walked-more : (c e : ℕ) {sums : List ℕ} → Filled scores T (h - 1) sums → i < h - 1 → c ≡ h - i - 2
+  pub walked-more : (c e : ℕ) {sums : List ℕ} → Filled scores T h (h - 1) sums → i < h - 1 → c ≡ h - i - 2
       → e ≡ firstGreatest (runSum scores sums c t) t (T - c - 1 - suc t) → Walked scores T h (i + 1) (e + 1) (set ends i e)
   unfolding endsFrom
   walked-more c e {sums} b m d q =
@@ -180,12 +220,14 @@ module _ {scores : List ℕ} {T h i t : ℕ} {ends : List ℕ} (w : Walked score
       let j : h - suc (i + 1) ≡ c = omega arith in
       let o : i + 1 ≡ suc i = omega arith in
       let f : t + suc c < T = omega (arith, w .fits) in
-      let z : e ≡ endAfter (tableScore scores) T c t = table-end c t b (omega arith) f e q in
+      let y = end-fits _ T c t e f q in
+      let z : e ≡ endAfter (tableScore scores) T c t = table-end c t b (omega arith) (reached h i c t m d (w .past)) f e q in
       let r : w .found ++ e ∷ endsFrom (tableScore scores) T c (suc e) ≡ bestEnds (tableScore scores) T h = rw z (rw k at (w .rest)) in
       record {
         found = w .found ++ e ∷ [];
         count = length-append (w .found) (e ∷ []) ∙ omega (arith, w .count);
-        fits = rw (j, add-one) (end-fits _ T c t e f q);
+        past = rw (add-one, add-one) (suc-le-suc (le-trans (w .past) (y .0)));
+        fits = rw (j, add-one) (y .1);
         held = rw o (put-next (w .found) ends i e (w .count) (w .held) (omega arith));
         rest = rw (j, add-one) (append-snoc (w .found) e (endsFrom (tableScore scores) T c (suc e)) ∙ r);
       }

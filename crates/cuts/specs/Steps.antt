@@ -1,9 +1,9 @@
 -- What the private functions' contracts cite: the table of greatest sums, with 96 columns, row c for c cuts and column t for first tick t.
 use mathlib.Core.Path.{_≡_}
 use mathlib.Core.List.{List}
-use Prim.Native.Nat.{ℕ, suc, _+_, _*_, _≤_, _<_}
+use Prim.Native.Nat.{ℕ, suc, _+_, _-_, _*_, _≤_, _<_}
 use lib.ListN.{length, getD}
-use Rattle.cuts.specs.Sums.{sumWith, bestSum, tableScore}
+use Rattle.cuts.specs.Sums.{firstGreatest, sumWith, bestSum, tableScore}
 
 -- row c of the table
 unfoldable pub rowSum : List ℕ → ℕ → ℕ → ℕ
@@ -13,17 +13,22 @@ rowSum sums c t = getD sums (c * 96 + t) 0
 abbrev pub runSum : List ℕ → List ℕ → ℕ → ℕ → ℕ → ℕ
 runSum scores sums c t e = sumWith (tableScore scores) (rowSum sums c) t e
 
--- s is that sum, and a score in it is at most 255
-pub record IsRunSum (scores sums : List ℕ) (c t e s : ℕ) : Type 0 where
-  pub sum : s ≡ runSum scores sums c t e
-  pub small : s ≤ 255 + rowSum sums c (suc e)
+-- row c has at most 255 for each of its c + 1 runs, after every end from t to stop - 1
+pub record SmallAfter (sums : List ℕ) (c t stop : ℕ) : Type 0 where
+  pub at : (e : ℕ) → t ≤ e → e < stop → rowSum sums c (suc e) ≤ 255 * suc c
+
+-- s is the greatest sum over the ends t to stop - 1, and at most 255 for each of the c + 2 runs
+pub record IsGreatestSum (scores sums : List ℕ) (c t stop s : ℕ) : Type 0 where
+  pub sum : s ≡ runSum scores sums c t (firstGreatest (runSum scores sums c t) t (stop - suc t))
+  pub small : s ≤ 255 * suc (suc c)
 
 -- the table has the greatest sum for c cuts from t on, which is at most 255 for each of the c + 1 runs
 pub record Entry (scores : List ℕ) (T : ℕ) (sums : List ℕ) (c t : ℕ) : Type 0 where
   pub best : rowSum sums c t ≡ bestSum (tableScore scores) T c t
   pub small : rowSum sums c t ≤ 255 * suc c
 
--- the rows below k have them, from every tick t at which c + 1 runs fit
-pub record Filled (scores : List ℕ) (T k : ℕ) (sums : List ℕ) : Type 0 where
+-- the rows below k have them, from every tick t that a cutting into h runs can reach with c cuts left: the h - c - 1 runs before t have a tick or
+-- more each, and c + 1 runs fit from t on
+pub record Filled (scores : List ℕ) (T h k : ℕ) (sums : List ℕ) : Type 0 where
   pub size : length sums ≡ 9216
-  pub at : (c t : ℕ) → c < k → t + c < T → Entry scores T sums c t
+  pub at : (c t : ℕ) → c < k → h ≤ suc (t + c) → t + c < T → Entry scores T sums c t

@@ -1,14 +1,15 @@
 // Cutting the ticks of a day into runs, with the greatest sum of scores.
 //
-// `best_ends` fills a table of greatest sums, 96 columns wide: row c for c cuts, column t for first tick t. Then it walks from tick 0,
-// and ends each run at the first tick that attains the greatest sum: so the list of ends is the first of those that attain it. Scores are in such
-// a table, too: row first tick, column last tick.
+// `best_ends` fills a table of greatest sums, 96 columns wide: row c for c cuts, column t for first tick t. It fills the states that a cutting
+// reaches: each run before t has a tick or more, and so has each of the c + 1 runs from t on. Then it walks from tick 0, and ends each run at the
+// first tick that attains the greatest sum: so the list of ends is the first of those that attain it. Scores are in such a table, too: row first
+// tick, column last tick.
 ghost use mathlib.Core.Path.{_≡_};
 ghost use mathlib.Core.List.{_++_};
 ghost use Prim.Native.Nat.{suc, _+_, _-_, _<_, _≤_};
 ghost use lib.ListN.{length, replicate};
 ghost use Rattle.cuts.specs.Sums.{firstGreatest, bestEnds, tableScore, endsOf};
-ghost use Rattle.cuts.specs.Steps.{runSum, IsRunSum, Filled};
+ghost use Rattle.cuts.specs.Steps.{runSum, SmallAfter, IsGreatestSum, Filled};
 
 // A score as a sum of one score.
 fn single(score: u8) -> u16
@@ -19,7 +20,7 @@ fn single(score: u8) -> u16
 
 // A score and a sum, added.
 fn added(score: u8, sum: u16) -> usize
-    ensures { λ r. ⌜ (r ≡ score + sum) × (r ≤ 255 + sum) ⌝ }
+    ensures { λ r. ⌜ r ≡ score + sum ⌝ }
 {
     score as usize + sum as usize
 }
@@ -27,9 +28,9 @@ fn added(score: u8, sum: u16) -> usize
 // The score of the run from tick t to tick e, added to what row c has for the runs after it.
 fn run_sum(scores: &[u8; 9216], sums: &[u16; 9216], c: usize, t: usize, e: usize) -> usize
     requires { ⌜ (c < 96) × (t < 96) × (e < 95) ⌝ }
-    ensures { λ r. ⌜ IsRunSum (now (scores .entry)) (now (sums .entry)) c t e r ⌝ }
+    ensures { λ r. ⌜ r ≡ runSum (now (scores .entry)) (now (sums .entry)) c t e ⌝ }
 {
-    added(scores[t * 96 + e], sums[c * 96 + (e + 1)])
+    added(scores[t * 96 + e], sums[c * 96 + 1 + e])
 }
 
 // The first of the ticks from t to stop - 1 at which a run from t has the greatest sum.
@@ -49,33 +50,50 @@ fn best_end(scores: &[u8; 9216], sums: &[u16; 9216], c: usize, t: usize, stop: u
     end
 }
 
-// Row 0: no cut, so that one run goes from t to the last tick.
-fn fill_first(scores: &[u8; 9216], sums: &mut [u16; 9216], ticks: usize)
-    requires { ⌜ (1 ≤ ticks) × (ticks ≤ 96) × (length (now sums) ≡ 9216) ⌝ }
-    ensures { λ _. ⌜ Filled (now (scores .entry)) ticks 1 (now (sums .exit)) ⌝ }
+// The greatest sum of a run from t that ends at one of the ticks t to stop - 1, and of the runs after it. It does not say at which end, so that the
+// compiler can vectorise the loop.
+fn greatest_sum(scores: &[u8; 9216], sums: &[u16; 9216], c: usize, t: usize, stop: usize) -> u16
+    requires { ⌜ (c < 96) × (t < stop) × (stop < 96) × SmallAfter (now sums) c t stop ⌝ }
+    ensures { λ r. ⌜ IsGreatestSum (now (scores .entry)) (now (sums .entry)) c t stop r ⌝ }
+{
+    let row = t * 96;
+    let after = c * 96 + 1;
+    let mut greatest: u16 = 0;
+    for e in t..stop {
+        let total = single(scores[row + e]) + sums[after + e];
+        if greatest < total {
+            greatest = total;
+        }
+    }
+    greatest
+}
+
+// Row 0: no cut, so that one run goes from t to the last tick. The other parts - 1 runs are before it, so t is not below parts - 1.
+fn fill_first(scores: &[u8; 9216], sums: &mut [u16; 9216], ticks: usize, parts: usize)
+    requires { ⌜ (1 ≤ parts) × (parts ≤ ticks) × (ticks ≤ 96) × (length (now sums) ≡ 9216) ⌝ }
+    ensures { λ _. ⌜ Filled (now (scores .entry)) ticks parts 1 (now (sums .exit)) ⌝ }
 {
     let last = ticks - 1;
-    for t in 0..ticks {
+    for t in parts - 1..ticks {
         sums[t] = single(scores[t * 96 + last]);
     }
 }
 
-// Row c + 1 from row c: for each first tick t the greatest sum over the ends that leave c + 1 ticks or more.
-fn fill_row(scores: &[u8; 9216], sums: &mut [u16; 9216], c: usize, ticks: usize)
-    requires { ⌜ (c + 1 < ticks) × (ticks ≤ 96) × Filled (now scores) ticks (c + 1) (now sums) ⌝ }
-    ensures { λ _. ⌜ Filled (now (scores .entry)) ticks (c + 2) (now (sums .exit)) ⌝ }
+// Row c + 1 from row c: for each first tick t that leaves a tick or more to each of the parts - c - 2 runs before it, the greatest sum over the ends
+// that leave c + 1 ticks or more.
+fn fill_row(scores: &[u8; 9216], sums: &mut [u16; 9216], c: usize, ticks: usize, parts: usize)
+    requires { ⌜ (c + 2 < parts) × (parts ≤ ticks) × (ticks ≤ 96) × Filled (now scores) ticks parts (c + 1) (now sums) ⌝ }
+    ensures { λ _. ⌜ Filled (now (scores .entry)) ticks parts (c + 2) (now (sums .exit)) ⌝ }
 {
     let stop = ticks - c - 1;
-    for t in 0..stop {
-        let end = best_end(scores, sums, c, t, stop);
-        let sum = run_sum(scores, sums, c, t, end);
-        sums[(c + 1) * 96 + t] = sum as u16;
+    for t in parts - c - 2..stop {
+        sums[(c + 1) * 96 + t] = greatest_sum(scores, sums, c, t, stop);
     }
 }
 
 // The ends of the first of the best cuttings, from the rows for fewer cuts, with zeros after them.
 fn walk_ends(scores: &[u8; 9216], sums: &[u16; 9216], ticks: usize, parts: usize) -> [u8; 96]
-    requires { ⌜ (1 ≤ parts) × (parts ≤ ticks) × (ticks ≤ 96) × Filled (now scores) ticks (parts - 1) (now sums) ⌝ }
+    requires { ⌜ (1 ≤ parts) × (parts ≤ ticks) × (ticks ≤ 96) × Filled (now scores) ticks parts (parts - 1) (now sums) ⌝ }
     ensures { λ r. ⌜ r ≡ bestEnds (tableScore (now (scores .entry))) ticks parts ++ replicate (96 - parts) 0 ⌝ }
 {
     let mut ends = [0u8; 96];
@@ -99,10 +117,10 @@ pub fn best_ends(scores: &[u8; 9216], ticks: usize, parts: usize) -> [u8; 96]
         return [0; 96];
     }
     let mut sums = [0u16; 9216];
-    fill_first(scores, &mut sums, ticks);
+    fill_first(scores, &mut sums, ticks, parts);
     let mut c = 0;
     while c + 2 < parts {
-        fill_row(scores, &mut sums, c, ticks);
+        fill_row(scores, &mut sums, c, ticks, parts);
         c += 1;
     }
     walk_ends(scores, &sums, ticks, parts)

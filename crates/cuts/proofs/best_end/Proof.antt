@@ -21,7 +21,7 @@ add-e : tie.Need-add-e Inv-loop μ-loop
 add-e c = search needs
 
 loop-holds : tie.Need-loop-holds Inv-loop μ-loop
-loop-holds c = (omega arith, tried-one (c .run-sum .ensures .sum))
+loop-holds c = (omega arith, tried-one (c .run-sum .ensures))
 
 run-sum-requires-2 : tie.Need-run-sum-requires-2 Inv-loop μ-loop
 run-sum-requires-2 c κs = search needs
@@ -35,7 +35,7 @@ loop-less c = search needs
 loop-again : tie.Need-loop-again Inv-loop μ-loop
 loop-again c =
     let i = c .before .before .before .loop .inv .1 in
-    let s = c .before .run-sum2 .ensures .sum in (
+    let s = c .before .run-sum2 .ensures in (
       omega arith,
       elim (c .if1 .came) [ inl h ↦ rw (h .1, h .2) (tried-take i s (h .0 .taken)) | inr h ↦ rw (h .1, h .2) (tried-keep i s (h .0 .left)) ],
     )

@@ -13,7 +13,7 @@ use Rattle.cuts.proofs.best_ends.Tie as tie
 
 abbrev Inv-loop : tie.InvT-loop
 Inv-loop scores ticks parts sums₀ c₀ sums c =
-    (1 ≤ parts) × (parts ≤ ticks) × (ticks ≤ 96) × (c + 1 ≤ parts) × Filled scores ticks (c + 1) sums
+    (1 ≤ parts) × (parts ≤ ticks) × (ticks ≤ 96) × (c + 1 ≤ parts) × Filled scores ticks parts (c + 1) sums
 
 abbrev μ-loop : tie.MeasureT-loop
 μ-loop scores ticks parts sums₀ c₀ sums c = parts - c

@@ -1,4 +1,4 @@
--- `fill_first` meets its contract: after t turns row 0 is filled below column t.
+-- `fill_first` meets its contract: before column t of the loop row 0 is filled below column t, as far as it is reached.
 use Prim.Native.Nat.{_-_, _≤_}
 use native.Mathlib.Omega.{arith}
 use borrow.Author.Needs.{needs}
@@ -7,16 +7,19 @@ use Rattle.cuts.proofs.fill_first.Statement.{statement}
 use Rattle.cuts.proofs.fill_first.Tie as tie
 
 abbrev Inv-loop : tie.InvT-loop
-Inv-loop scores sums₀ ticks last t₀ sums t = (t ≤ ticks) × PartlyFilled scores ticks 0 t sums
+Inv-loop scores sums₀ ticks parts last t₀ sums t = (t ≤ ticks) × PartlyFilled scores ticks parts 0 t sums
 
 abbrev μ-loop : tie.MeasureT-loop
-μ-loop scores sums₀ ticks last t₀ sums t = ticks - t
+μ-loop scores sums₀ ticks parts last t₀ sums t = ticks - t
 
 sub-last : tie.Need-sub-last Inv-loop μ-loop
 sub-last c = search needs
 
+sub-t : tie.Need-sub-t Inv-loop μ-loop
+sub-t c = search needs
+
 loop-holds : tie.Need-loop-holds Inv-loop μ-loop
-loop-holds c = (omega arith, partly-none (filled-none (c .pre .2)))
+loop-holds c = (omega arith, partly-none (filled-none (c .pre .3)) (omega arith))
 
 mul-single : tie.Need-mul-single Inv-loop μ-loop
 mul-single c = search needs
@@ -57,6 +60,7 @@ fill-first-spec =
     Inv-loop
     μ-loop
     sub-last
+    sub-t
     loop-holds
     mul-single
     add-single

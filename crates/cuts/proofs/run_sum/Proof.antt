@@ -1,4 +1,5 @@
 -- `run_sum` meets its contract: the score and the table's entry that it adds are those of the definition.
+use mathlib.Core.Path.{refl, _∙_}
 use borrow.Author.Needs.{needs}
 use Rattle.cuts.proofs.Steps.{run-sum-in}
 use Rattle.cuts.proofs.run_sum.Statement.{statement}
@@ -32,7 +33,7 @@ added-requires : tie.Need-added-requires
 added-requires c κs = search needs
 
 returns : tie.Need-returns
-returns c = run-sum-in _ _ _ _ _ _ (c .added .ensures)
+returns c = c .added .ensures ∙ run-sum-in _ _ _ _ _ refl
 
 pub run-sum-spec : {M : Type 1} → statement M
 run-sum-spec =
