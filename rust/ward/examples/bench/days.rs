@@ -1,60 +1,79 @@
-//! The days that the calls are measured on: 64 badges, 96 ticks, from a fixed generator.
+//! The days that the calls are measured on: from a fixed generator, of 64 badges and 96 ticks in the tables, and of any size for how the cost grows.
 
 use crate::random::Random;
 
-fn meet(words: &mut [u64], t: usize, u: usize, v: usize) {
-    words[t * 64 + u] |= 1 << v;
-    words[t * 64 + v] |= 1 << u;
+pub struct Day {
+    pub badges: usize,
+    pub ticks: usize,
+    pub words: Vec<u64>,
 }
 
-/// Each pair in each tick with a probability of so many in a million, keeping its state with a probability of so many in 100, else drawn anew.
-fn pairs(seed: u64, density: usize, keep: usize) -> Vec<u64> {
-    let mut random = Random(seed);
-    let mut words = vec![0; ward::WORDS];
-    for u in 0..64 {
-        for v in u + 1..64 {
-            let mut met = random.below(1_000_000) < density;
-            for t in 0..96 {
-                if t > 0 && random.below(100) >= keep {
-                    met = random.below(1_000_000) < density;
-                }
-                if met {
-                    meet(&mut words, t, u, v);
+/// The days of the tables. Sparse: about 100 of the 2,016 pairs a tick, each kept into the next with probability 0.8; busy: teams; dense: all pairs all
+/// day; random: one half; persistent: nine tenths, each pair keeping its state with probability 0.8; and empty: no contact at all.
+pub const NAMES: [&str; 6] = ["sparse", "busy", "dense", "random", "persistent", "empty"];
+
+impl Day {
+    /// A day of the tables, or document 01's day D1: contacts 0–1, 0–2 and 1–2 in ticks 0 to 1, and 2–3 in ticks 0 to 2.
+    pub fn named(name: &str) -> Day {
+        match name {
+            "d1" => Day { badges: 4, ticks: 3, words: vec![6, 5, 11, 4, 6, 5, 11, 4, 0, 0, 8, 4] },
+            _ => Day::sized(name, 64, 96),
+        }
+    }
+
+    /// A day as one of the tables is made, with so many badges and ticks.
+    pub fn sized(name: &str, badges: usize, ticks: usize) -> Day {
+        let empty = Day { badges, ticks, words: vec![0; badges * ticks] };
+        match name {
+            "sparse" => empty.pairs(1, 49_600, 80),
+            "busy" => empty.teams(5),
+            "dense" => empty.pairs(2, 1_000_000, 0),
+            "random" => empty.pairs(3, 500_000, 0),
+            "persistent" => empty.pairs(4, 900_000, 80),
+            "empty" => empty,
+            _ => panic!("no day {name}"),
+        }
+    }
+
+    fn meet(&mut self, t: usize, u: usize, v: usize) {
+        self.words[t * self.badges + u] |= 1 << v;
+        self.words[t * self.badges + v] |= 1 << u;
+    }
+
+    /// Each pair in each tick with a probability of so many in a million, keeping its state with a probability of so many in 100, else drawn anew.
+    fn pairs(mut self, seed: u64, density: usize, keep: usize) -> Day {
+        let mut random = Random(seed);
+        for u in 0..self.badges {
+            for v in u + 1..self.badges {
+                let mut met = random.below(1_000_000) < density;
+                for t in 0..self.ticks {
+                    if t > 0 && random.below(100) >= keep {
+                        met = random.below(1_000_000) < density;
+                    }
+                    if met {
+                        self.meet(t, u, v);
+                    }
                 }
             }
         }
+        self
     }
-    words
-}
 
-/// Teams of 6 to 10 that meet for 6 to 30 ticks, overlapping.
-fn busy() -> Vec<u64> {
-    let mut random = Random(5);
-    let mut words = vec![0; ward::WORDS];
-    for _ in 0..60 {
-        let size = 6 + random.below(5);
-        let team: Vec<usize> = (0..size).map(|_| random.below(64)).collect();
-        let (first, length) = (random.below(96), 6 + random.below(25));
-        for t in first..96.min(first + length) {
-            for &u in &team {
-                for &v in team.iter().filter(|&&v| v != u) {
-                    meet(&mut words, t, u, v);
+    /// Teams of 6 to 10 that meet for 6 to 30 ticks, overlapping.
+    fn teams(mut self, seed: u64) -> Day {
+        let mut random = Random(seed);
+        for _ in 0..60 {
+            let size = 6 + random.below(5);
+            let team: Vec<usize> = (0..size).map(|_| random.below(self.badges)).collect();
+            let (first, length) = (random.below(self.ticks), 6 + random.below(25));
+            for t in first..self.ticks.min(first + length) {
+                for &u in &team {
+                    for &v in team.iter().filter(|&&v| v != u) {
+                        self.meet(t, u, v);
+                    }
                 }
             }
         }
+        self
     }
-    words
-}
-
-/// Sparse: about 100 of the 2,016 pairs a tick, each kept into the next with probability 0.8; busy; dense: all pairs all day; random: one half;
-/// persistent: nine tenths, each pair keeping its state with probability 0.8; and empty: no contact at all.
-pub fn all() -> Vec<(&'static str, Vec<u64>)> {
-    vec![
-        ("sparse", pairs(1, 49_600, 80)),
-        ("busy", busy()),
-        ("dense", pairs(2, 1_000_000, 0)),
-        ("random", pairs(3, 500_000, 0)),
-        ("persistent", pairs(4, 900_000, 80)),
-        ("empty", vec![0; ward::WORDS]),
-    ]
 }

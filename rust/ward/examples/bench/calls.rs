@@ -1,0 +1,84 @@
+//! The calls that are measured, by name.
+
+use crate::baselines::{algorithm2, bitsets, lists};
+use crate::days::Day;
+use crate::receivers;
+
+pub type Report = fn(&[u64], usize, usize, &mut [u8]) -> Option<usize>;
+
+pub fn engine_report(words: &[u64], n: usize, ticks: usize, out: &mut [u8]) -> Option<usize> {
+    ward::report(words, n, ticks, ward::Thresholds::default(), out).ok()
+}
+
+/// The engine's report of the groups that last 4 ticks or more, are of order 2 or more and have 3 members or more.
+fn filtered(words: &[u64], n: usize, ticks: usize, out: &mut [u8]) -> Option<usize> {
+    ward::report(words, n, ticks, ward::Thresholds { ticks: 4, order: 2, members: 3 }, out).ok()
+}
+
+/// The ways to make the plain report, and the one with fewer groups.
+pub const REPORTS: [(&str, Report); 5] = [
+    ("engine", engine_report),
+    ("lists", lists::report),
+    ("algorithm2", algorithm2::report),
+    ("bitsets", bitsets::report),
+    ("filtered", filtered),
+];
+pub const OTHERS: [&str; 9] = ["plan", "numbers", "write", "read", "tidy", "reads2", "join2", "reads4", "join4"];
+
+/// A call on one day with buffers of its own, to be made so often as one likes: the number of bytes, of contact records, or of words, that it gives.
+pub type Call<'a> = Box<dyn FnMut() -> usize + 'a>;
+
+/// The call of a name; none where it needs the day's log and the day has none, having more than 8,000 runs.
+pub fn ready<'a>(name: &str, day: &'a Day) -> Option<Call<'a>> {
+    made_of_words(name, day).or_else(|| made_of_the_log(name, day))
+}
+
+/// The call of a name, if it is one of those that need no log.
+fn made_of_words<'a>(name: &str, day: &'a Day) -> Option<Call<'a>> {
+    let &Day { badges, ticks, ref words } = day;
+    if let Some(&(_, report)) = REPORTS.iter().find(|r| r.0 == name) {
+        let mut out = vec![0; ward::REPORT_BYTES];
+        return Some(Box::new(move || report(words, badges, ticks, &mut out).expect("a report")));
+    }
+    let mut out = vec![0; ward::PLAN_BYTES];
+    match name {
+        "plan" => Some(Box::new(move || ward::plan(words, badges, ticks, 0b11, 8, &mut out).expect("a plan"))),
+        "numbers" => Some(Box::new(move || ward::core_numbers(words, badges, ticks, 0, 3, &mut out).expect("core numbers"))),
+        _ => None,
+    }
+}
+
+/// The call of a name that is made on the day's log, if there is one, or writes it.
+fn made_of_the_log<'a>(name: &str, day: &'a Day) -> Option<Call<'a>> {
+    let &Day { badges, ticks, ref words } = day;
+    let mut log = vec![0; ward::LOG_BYTES];
+    let size = ward::write(words, badges, ticks, &mut log).ok()?;
+    log.truncate(size);
+    let (mut work, mut out) = (vec![0; ward::WORDS], vec![0; ward::LOG_BYTES]);
+    match name {
+        "write" => Some(Box::new(move || ward::write(words, badges, ticks, &mut out).expect("a day with a log"))),
+        "read" => Some(Box::new(move || ward::read(&log, &mut work).expect("a log").contacts)),
+        "tidy" => Some(Box::new(move || ward::tidy(&log, &mut work, &mut out).expect("a log"))),
+        "reads2" => Some(reads(receivers::logs(&log, 2))),
+        "reads4" => Some(reads(receivers::logs(&log, 4))),
+        "join2" => Some(join(receivers::logs(&log, 2))),
+        "join4" => Some(join(receivers::logs(&log, 4))),
+        _ => panic!("no call {name}"),
+    }
+}
+
+/// The logs of receivers, read one after the other.
+fn reads(logs: Vec<Vec<u8>>) -> Call<'static> {
+    let mut words = vec![0; ward::WORDS];
+    Box::new(move || logs.iter().map(|log| ward::read(log, &mut words).expect("a log").contacts).sum())
+}
+
+/// The logs of receivers, joined at quorum 2.
+fn join(logs: Vec<Vec<u8>>) -> Call<'static> {
+    let lengths: Vec<usize> = logs.iter().map(Vec::len).collect();
+    let (logs, mut words, mut work) = (logs.concat(), vec![0; ward::WORDS], vec![0; ward::JOIN_WORK_WORDS]);
+    Box::new(move || {
+        let day = ward::join(&logs, &lengths, 2, &mut words, &mut work).expect("logs of one shift");
+        day.badges * day.ticks
+    })
+}
