@@ -1,11 +1,12 @@
 #!/usr/bin/env bash
 # Counts the instructions of one call on each day of the benchmark, in millions: figures that repeat. One table has the plain report, made by the
 # engine and by each baseline, and 'filtered', the engine's report of the groups that last 4 ticks or more, are of order 2 or more and have 3 members or
-# more: it should take no more instructions than the plain one, and how many fewer it takes, one by one, stands last. The second table has the engine's
-# plan around badges 0 and 1 in 8 parts, the core numbers of ticks 0 to 3, write, and read and tidy of the day's log. The third has the join of the logs
-# of 2 and of 4 receivers at quorum 2, each with each run of the day's log with probability 3/4, and before it the reads of the same logs, one after the
-# other. In both there is a '-' where a day has no log, having more than 8,000 runs. Each count is of one call, or of the reads of 2 or 4 logs, in a new
-# process; buffers are not cleared between calls, and no clearing is counted.
+# more: it should take no more instructions than the plain one, and how many fewer it takes, one by one, stands last. The second table has the plan
+# around badges 0 and 1 in 8 and in 32 parts, made by the engine and, as 'bitplan', by the baseline with bitsets. The third has the engine's core
+# numbers of ticks 0 to 3, write, and read and tidy of the day's log. The fourth has the join of the logs of 2 and of 4 receivers at quorum 2, each with
+# each run of the day's log with probability 3/4, and before it the reads of the same logs, one after the other. In both there is a '-' where a day has
+# no log, having more than 8,000 runs. Each count is of one call, or of the reads of 2 or 4 logs, in a new process; buffers are not cleared between
+# calls, and no clearing is counted.
 # Needs cargo, valgrind, and target/staticlib/libward.a, which `rt staticlib ward` writes. Its arguments are the days, all six if there are none.
 set -euo pipefail
 cd "$(dirname "${BASH_SOURCE[0]}")/../rust/ward"
@@ -42,7 +43,24 @@ for day in "$@"; do
         "$((counts[engine] - counts[filtered]))"
 done
 
-others=(plan numbers write read tidy)
+printf '\n%-20s' "plan, millions"
+for parts in 8 32; do
+    printf '%12s%12s%16s' "plan$parts" "bitplan$parts" "engine/bitsets"
+done
+printf '\n'
+for day in "$@"; do
+    printf '%-20s' "$day"
+    for parts in 8 32; do
+        plan=$(count "$day" "plan$parts")
+        bitplan=$(count "$day" "bitplan$parts")
+        millions "$plan"
+        millions "$bitplan"
+        printf '%16s' "$(ratio "$plan" "$bitplan")"
+    done
+    printf '\n'
+done
+
+others=(numbers write read tidy)
 printf '\n%-20s' "others, millions"
 printf '%12s' "${others[@]}"
 printf '\n'

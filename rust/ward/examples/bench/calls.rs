@@ -1,10 +1,11 @@
 //! The calls that are measured, by name.
 
-use crate::baselines::{algorithm2, bitsets, lists};
+use crate::baselines::{algorithm2, bitset_plan, bitsets, lists};
 use crate::days::Day;
 use crate::receivers;
 
 pub type Report = fn(&[u64], usize, usize, &mut [u8]) -> Option<usize>;
+pub type Plan = fn(&[u64], usize, usize, u64, usize, &mut [u8]) -> Option<usize>;
 
 pub fn engine_report(words: &[u64], n: usize, ticks: usize, out: &mut [u8]) -> Option<usize> {
     ward::report(words, n, ticks, ward::Thresholds::default(), out).ok()
@@ -15,6 +16,10 @@ fn filtered(words: &[u64], n: usize, ticks: usize, out: &mut [u8]) -> Option<usi
     ward::report(words, n, ticks, ward::Thresholds { ticks: 4, order: 2, members: 3 }, out).ok()
 }
 
+fn engine_plan(words: &[u64], n: usize, ticks: usize, query: u64, parts: usize, out: &mut [u8]) -> Option<usize> {
+    ward::plan(words, n, ticks, query, parts, out).ok()
+}
+
 /// The ways to make the plain report, and the one with fewer groups.
 pub const REPORTS: [(&str, Report); 5] = [
     ("engine", engine_report),
@@ -23,7 +28,12 @@ pub const REPORTS: [(&str, Report); 5] = [
     ("bitsets", bitsets::report),
     ("filtered", filtered),
 ];
-pub const OTHERS: [&str; 9] = ["plan", "numbers", "write", "read", "tidy", "reads2", "join2", "reads4", "join4"];
+/// The ways to make a plan; the number of its parts follows in the call's name, as in plan8.
+pub const PLANS: [(&str, Plan); 2] = [("plan", engine_plan), ("bitplan", bitset_plan::plan)];
+pub const PARTS: [usize; 2] = [8, 32];
+/// The badges that a plan is around: 0 and 1.
+pub const QUERY: u64 = 0b11;
+pub const OTHERS: [&str; 8] = ["numbers", "write", "read", "tidy", "reads2", "join2", "reads4", "join4"];
 
 /// A call on one day with buffers of its own, to be made so often as one likes: the number of bytes, of contact records, or of words, that it gives.
 pub type Call<'a> = Box<dyn FnMut() -> usize + 'a>;
@@ -40,12 +50,14 @@ fn made_of_words<'a>(name: &str, day: &'a Day) -> Option<Call<'a>> {
         let mut out = vec![0; ward::REPORT_BYTES];
         return Some(Box::new(move || report(words, badges, ticks, &mut out).expect("a report")));
     }
-    let mut out = vec![0; ward::PLAN_BYTES];
-    match name {
-        "plan" => Some(Box::new(move || ward::plan(words, badges, ticks, 0b11, 8, &mut out).expect("a plan"))),
-        "numbers" => Some(Box::new(move || ward::core_numbers(words, badges, ticks, 0, 3, &mut out).expect("core numbers"))),
-        _ => None,
+    for (way, plan) in PLANS {
+        if let Some(parts) = name.strip_prefix(way).and_then(|parts| parts.parse().ok()) {
+            let mut out = vec![0; ward::PLAN_BYTES];
+            return Some(Box::new(move || plan(words, badges, ticks, QUERY, parts, &mut out).expect("as many parts as ticks or fewer")));
+        }
     }
+    let mut out = vec![0; ward::CORE_NUMBERS];
+    (name == "numbers").then(|| -> Call { Box::new(move || ward::core_numbers(words, badges, ticks, 0, 3, &mut out).expect("four ticks")) })
 }
 
 /// The call of a name that is made on the day's log, if there is one, or writes it.

@@ -1,11 +1,11 @@
-//! Compares the plain report with baselines in Rust and with the engine's own report under thresholds, and measures the plan around badges 0 and 1 in
-//! 8 parts, the core numbers of ticks 0 to 3, write, read and tidy of the day's log, and the join of the logs of 2 and of 4 receivers at quorum 2 beside
-//! the reads of the same logs, one after the other, on days of 64 badges and 96 ticks from a fixed generator. Medians of wall time, and ratios, in one
-//! run. Every baseline does the checks 10, 8, 11 and 9 and the encoding, as the engine does, and its bytes are compared with the engine's first. Buffers
-//! are not cleared between calls.
+//! Compares the plain report with baselines in Rust and with the engine's own report under thresholds, and the plan around badges 0 and 1 in 8 and in 32
+//! parts with a baseline; and measures the core numbers of ticks 0 to 3, write, read and tidy of the day's log, and the join of the logs of 2 and of 4
+//! receivers at quorum 2 beside the reads of the same logs, one after the other, on days of 64 badges and 96 ticks from a fixed generator. Medians of
+//! wall time, and ratios, in one run. Every baseline does the checks of its call and the encoding, as the engine does, and its bytes are compared with
+//! the engine's first. Buffers are not cleared between calls.
 //!
 //!     cargo run --offline --release --example bench                the tables
-//!     cargo run --offline --release --example bench -- W C         one call, for an instruction count: workload W, call C, as in random engine
+//!     cargo run --offline --release --example bench -- W C         one call, for an instruction count: workload W, call C, as in random plan8
 //!     cargo run --offline --release --example bench -- W N T C     the same, on a day of N badges and T ticks that is made as workload W is
 
 mod baselines;
@@ -15,7 +15,7 @@ mod days;
 mod random;
 mod receivers;
 
-use calls::{ready, Call, OTHERS, REPORTS};
+use calls::{ready, Call, OTHERS, PARTS, PLANS, QUERY, REPORTS};
 use days::Day;
 use std::time::Instant;
 
@@ -51,6 +51,16 @@ fn groups(name: &str, day: &Day) -> usize {
     (size - 10) / 13
 }
 
+/// Every way to make a plan in so many parts has to give the same bytes.
+fn compare_plans(name: &str, day: &Day, parts: usize) {
+    let [engine, bitsets] = PLANS.map(|(_, plan)| {
+        let mut out = vec![0; ward::PLAN_BYTES];
+        let size = plan(&day.words, day.badges, day.ticks, QUERY, parts, &mut out).expect("a plan");
+        (size, out)
+    });
+    assert!(engine == bitsets, "{name}: a plan in {parts} parts");
+}
+
 fn report_table() {
     print!("{:<12}{:>8}", "report, µs", "groups");
     REPORTS.iter().for_each(|r| print!("{:>12}", r.0));
@@ -62,6 +72,25 @@ fn report_table() {
         times.iter().for_each(|time| print!("{time:>12.0}"));
         let [engine, lists, _, bitsets, filtered] = times;
         println!("{:>16.2}{:>14.2}{:>17.2}", engine / bitsets, lists / engine, filtered / engine);
+    }
+}
+
+fn plan_table() {
+    print!("{:<20}", "plan, µs");
+    for parts in PARTS {
+        PLANS.iter().for_each(|p| print!("{:>12}", format!("{}{parts}", p.0)));
+        print!("{:>16}", "engine/bitsets");
+    }
+    println!();
+    for name in days::NAMES {
+        let day = Day::named(name);
+        print!("{name:<20}");
+        for parts in PARTS {
+            compare_plans(name, &day, parts);
+            let [engine, bitsets] = PLANS.map(|(way, _)| median(15, ready(&format!("{way}{parts}"), &day).expect("a plan")));
+            print!("{engine:>12.0}{bitsets:>12.0}{:>16.2}", engine / bitsets);
+        }
+        println!();
     }
 }
 
@@ -84,6 +113,8 @@ fn other_table() {
 
 fn tables() {
     report_table();
+    println!();
+    plan_table();
     println!();
     other_table();
 }

@@ -2,7 +2,7 @@
 //! is a lower bound, and only badges with more neighbours than that are looked at, for the innermost core above it.
 
 use super::lists::neighbours;
-use super::{encode, is_day, members, Group};
+use super::{encode_report, is_day, members, Group};
 
 /// The innermost core above an order among the badges of a span: its order and members, if there is one.
 fn innermost(neighbours: &[Vec<usize>], above: usize) -> Option<(usize, u64)> {
@@ -55,5 +55,5 @@ pub fn report(words: &[u64], n: usize, ticks: usize, out: &mut [u8]) -> Option<u
         }
     }
     groups.sort_by_key(|g| (g.1, g.2));
-    encode(n, ticks, &groups, out)
+    encode_report(n, ticks, &groups, out)
 }

@@ -1,11 +1,12 @@
 //! A plain version with bitsets: for each first tick the rows of all its spans are narrowed tick by tick, until no contact is left; then the last
-//! tick walks downward, and each span is peeled above the orders of the two that are one tick longer.
+//! tick walks downward, and each span is peeled above the orders of the two that are one tick longer. The report's orders are the scores of the empty
+//! query; the plan has its own query, and a core counts only if it contains that.
 
-use super::{encode, is_day, Group};
+use super::{encode_report, is_day, Group};
 
 /// Drops the members with fewer than k neighbours among them until none is left to drop: who is left, and the fewest neighbours that one of them has
-/// there. None once k or fewer are left: a core of order k has more members than that.
-fn core(rows: &[u64; 64], mut set: u64, k: u32) -> Option<(u64, u32)> {
+/// there. None once a badge of the query is dropped, or k or fewer are left: a core of order k has more members than that.
+pub fn core(rows: &[u64; 64], mut set: u64, query: u64, k: u32) -> Option<(u64, u32)> {
     let mut size = set.count_ones();
     if size <= k {
         return None;
@@ -19,7 +20,7 @@ fn core(rows: &[u64; 64], mut set: u64, k: u32) -> Option<(u64, u32)> {
             if degree < k {
                 set &= !(1 << u);
                 size -= 1;
-                if size <= k {
+                if size <= k || query >> u & 1 == 1 {
                     return None;
                 }
             } else {
@@ -32,42 +33,69 @@ fn core(rows: &[u64; 64], mut set: u64, k: u32) -> Option<(u64, u32)> {
     }
 }
 
+/// The scores of the spans from one first tick after the other.
+pub struct Lines<'a> {
+    words: &'a [u64],
+    n: usize,
+    /// Of the spans from the first tick, by last tick: their rows, and the badges whose row is not empty, as far as there is one.
+    spans: Vec<([u64; 64], u64)>,
+    /// Their scores, by last tick.
+    pub scores: [u32; 97],
+}
+
+impl Lines<'_> {
+    /// Before tick 0, where no span has a score.
+    pub fn new(words: &[u64], n: usize, ticks: usize) -> Lines<'_> {
+        Lines { words: &words[..n * ticks], n, spans: Vec::with_capacity(ticks), scores: [0; 97] }
+    }
+
+    /// Narrows rows from a first tick on, as far as a contact is left, and one of each badge of the query.
+    fn narrow(&mut self, first: usize, query: u64) {
+        self.spans.clear();
+        let mut rows = [!0; 64];
+        for tick in self.words.chunks_exact(self.n).skip(first) {
+            let mut joined = 0;
+            for (row, word) in rows.iter_mut().zip(tick) {
+                *row &= word;
+                joined |= *row;
+            }
+            if joined == 0 || query & !joined != 0 {
+                break;
+            }
+            self.spans.push((rows, joined));
+        }
+    }
+
+    /// Goes on to the next first tick, and shows the cores whose order is above that of both spans one tick longer, from the last tick downward.
+    pub fn walk(&mut self, first: usize, query: u64, mut show: impl FnMut(u32, usize, u64)) {
+        self.narrow(first, query);
+        self.scores[first + self.spans.len()..].fill(0);
+        for (i, &(ref rows, joined)) in self.spans.iter().enumerate().rev() {
+            let last = first + i;
+            // scores[last] is still that of the span from the tick before first
+            let bound = self.scores[last].max(self.scores[last + 1]);
+            let (mut set, mut k) = (joined, bound);
+            while let Some(left) = core(rows, set, query, k + 1) {
+                (set, k) = left;
+            }
+            self.scores[last] = k;
+            if k > bound {
+                show(k, last, set);
+            }
+        }
+    }
+}
+
 pub fn report(words: &[u64], n: usize, ticks: usize, out: &mut [u8]) -> Option<usize> {
     if !is_day(words, n, ticks) {
         return None;
     }
     let mut groups: Vec<Group> = Vec::new();
-    let mut orders = [0u32; 97];
-    // of the spans from one first tick, by last tick: their rows, and the badges whose row is not empty
-    let (mut table, mut joined) = ([[0u64; 64]; 96], [0u64; 96]);
+    let mut lines = Lines::new(words, n, ticks);
     for first in 0..ticks {
-        let (mut rows, mut reached) = ([!0u64; 64], first);
-        for (last, tick) in words.chunks_exact(n).enumerate().take(ticks).skip(first) {
-            let mut any = 0;
-            for (row, word) in rows.iter_mut().zip(tick) {
-                *row &= word;
-                any |= *row;
-            }
-            if any == 0 {
-                break;
-            }
-            (table[last], joined[last], reached) = (rows, any, last + 1);
-        }
-        orders[reached..ticks].fill(0);
         let from = groups.len();
-        for last in (first..reached).rev() {
-            // orders[last] is still that of the span from the tick before first
-            let bound = orders[last].max(orders[last + 1]);
-            let (mut set, mut k) = (joined[last], bound);
-            while let Some(left) = core(&table[last], set, k + 1) {
-                (set, k) = left;
-            }
-            orders[last] = k;
-            if k > bound {
-                groups.push((k as u8, first, last, set));
-            }
-        }
+        lines.walk(first, 0, |order, last, members| groups.push((order as u8, first, last, members)));
         groups[from..].reverse();
     }
-    encode(n, ticks, &groups, out)
+    encode_report(n, ticks, &groups, out)
 }

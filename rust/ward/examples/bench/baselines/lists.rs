@@ -1,7 +1,7 @@
 //! Every span's core decomposition, with lists of neighbours and badges kept in order of degree, and then the filter: a core is maximal if no
 //! containing span has an order as large.
 
-use super::{encode, is_day, members, Group};
+use super::{encode_report, is_day, members, Group};
 
 /// The neighbours of each badge in every tick of a span.
 pub fn neighbours(words: &[u64], n: usize, first: usize, last: usize) -> Vec<Vec<usize>> {
@@ -79,5 +79,5 @@ pub fn report(words: &[u64], n: usize, ticks: usize, out: &mut [u8]) -> Option<u
             }
         }
     }
-    encode(n, ticks, &groups, out)
+    encode_report(n, ticks, &groups, out)
 }
