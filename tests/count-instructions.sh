@@ -5,24 +5,11 @@
 # around badges 0 and 1 in 8 and in 32 parts, made by the engine and, as 'bitplan', by the baseline with bitsets. The third has the engine's core
 # numbers of ticks 0 to 3, write, and read and tidy of the day's log. The fourth has the join of the logs of 2 and of 4 receivers at quorum 2, each with
 # each run of the day's log with probability 3/4, and before it the reads of the same logs, one after the other. In both there is a '-' where a day has
-# no log, having more than 8,000 runs. Each count is of one call, or of the reads of 2 or 4 logs, in a new process; buffers are not cleared between
-# calls, and no clearing is counted.
+# no log, having more than 8,000 runs. Each count is of one call, or of the reads of 2 or 4 logs, in a new process.
 # Needs cargo, valgrind, and target/staticlib/libward.a, which `rt staticlib ward` writes. Its arguments are the days, all six if there are none.
 set -euo pipefail
-cd "$(dirname "${BASH_SOURCE[0]}")/../rust/ward"
+source "$(dirname "${BASH_SOURCE[0]}")/counting.sh"
 [ $# -gt 0 ] || set -- sparse busy dense random persistent empty
-cargo build --quiet --offline --release --target-dir target --example bench
-scratch=$(mktemp -d)
-trap 'rm -rf "$scratch"' EXIT
-
-# The instructions of a call on a day; 0 where it is not made.
-count() {
-    if ! valgrind --tool=callgrind --callgrind-out-file="$scratch/out" --toggle-collect=counted target/release/examples/bench "$1" "$2" > "$scratch/said" 2>&1; then
-        cat "$scratch/said" >&2
-        exit 1
-    fi
-    awk '/^(summary|totals):/ { count = $2 } END { print count + 0 }' "$scratch/out"
-}
 
 # A count in millions, and a ratio; '-' where there is no count.
 millions() { awk -v count="$1" 'BEGIN { printf "%12s", count == 0 ? "-" : sprintf("%.3f", count / 1e6) }'; }
