@@ -3,4 +3,6 @@ pub mod Cuttings
 pub mod FirstCuttings
 pub mod Sums
 pub mod EndsOf
+pub mod Greatest
+pub mod Maxima
 pub mod Steps

@@ -1,17 +1,20 @@
 -- Laws of the program's loops: trying the ends of a run, filling the table of greatest sums row by row, and walking over the ends found.
 use mathlib.Core.Path.{_≡_, refl, sym, ap, ap₂, _∙_}
+use mathlib.Core.Bool.{Bool, true, false}
 use mathlib.Core.List.{List, [], _∷_, _++_}
 use mathlib.Core.Logic.{_⊎_, inl, inr}
-use Prim.Native.Nat.{ℕ, zero, suc, _+_, _-_, _*_, _≤_, _<_, zero-le, suc-le-suc}
+use Prim.Native.Nat.{ℕ, zero, suc, _+_, _-_, _*_, _≤_, _<_, max, zero-le, suc-le-suc}
 use native.Mathlib.Nat.{le-trans, eq-or-lt-of-le}
 use native.Mathlib.Numerals.{add-one}
 use native.Mathlib.Omega.{arith}
 use lib.ListN.{length, getD, set, replicate, length-set, length-append}
 use lib.Seq.{getD-set-same, getD-set-other, set-at, append-snoc}
-use borrow.Author.Tests.{lt-ltb, le-ltb}
+use lib.Dec.{eqb}
+use borrow.Author.Tests.{lt-ltb, le-ltb, eqb-true, eqb-false}
 use Rattle.cuts.specs.Sums.{firstGreatest, sumWith, laterEnds, bestSum, endAfter, endsFrom, bestEnds, tableScore}
-use Rattle.cuts.specs.Steps.{rowSum, runSum, SmallAfter, IsGreatestSum, Entry, Filled}
+use Rattle.cuts.specs.Steps.{GreatestOf, rowSum, rowAfter, runSum, SmallAfter, IsGreatestSum, Entry, Filled}
 use Rattle.cuts.proofs.Sums.{greatest-take, greatest-keep, greatest-same, is-greatest, best-sum-suc, end-greatest}
+use Rattle.cuts.proofs.Greatest.{greatest-none, greatest-one, greatest-both, greatest-of-same, at-first-greatest}
 
 -- ---- trying the ends of a run
 
@@ -27,7 +30,7 @@ run-sum-in scores sums c t e q = rw (q, after-in sums c e)
 
 -- and that entry is small
 pub small-in : {sums : List ℕ} {c t stop e : ℕ} → SmallAfter sums c t stop → t ≤ e → e < stop → getD sums (c * 96 + 1 + e) 0 ≤ 255 * suc c
-small-in {sums} {c} {e = e} a l m = rw (after-in sums c e) (a .at e l m)
+small-in {sums} {c} {e = e} a l m = rw (after-in sums c e) (a .small .at e l m)
 
 -- of the ends t to e - 1, `end` is the first at which g is greatest, and there it is `greatest`
 pub record Tried (g : ℕ → ℕ) (t e end greatest : ℕ) : Type 0 where
@@ -69,36 +72,6 @@ end-in g t stop end l q = let p = is-greatest g t (stop - suc t) in (omega (arit
 end-fits : (g : ℕ → ℕ) (T c t end : ℕ) → t + suc c < T → end ≡ firstGreatest g t (T - c - 1 - suc t) → (t ≤ end) × (suc end + c < T)
 end-fits g T c t end h q = let i = end-in g t (T - c - 1) end (omega arith) q in (i .0, omega arith)
 
--- ---- the greatest sum, with no end
-
--- of the sums at t to e - 1 none exceeds `greatest`, which does not exceed the greatest of those at t to stop - 1
-pub record Summed (g : ℕ → ℕ) (t stop e greatest : ℕ) : Type 0 where
-  pub most : (d : ℕ) → t ≤ d → d < e → g d ≤ greatest
-  pub least : greatest ≤ g (firstGreatest g t (stop - suc t))
-
--- before the first sum, after one sum more, and after the last
-pub summed-none : {g : ℕ → ℕ} {t stop : ℕ} → Summed g t stop t 0
-summed-none = record { most = λ d l m. absurd (omega arith); least = zero-le }
-
-module _ {g : ℕ → ℕ} {t stop e greatest x : ℕ} (s : Summed g t stop e greatest) (v : x ≡ g e) where
-  summed-with : {y : ℕ} → greatest ≤ y → x ≤ y → y ≤ g (firstGreatest g t (stop - suc t)) → Summed g t stop (e + 1) y
-  summed-with {y} a b z = record { most = λ d l m. go d l (eq-or-lt-of-le (let n : suc d ≤ suc e = omega arith in n)); least = z }
-    where
-      go : (d : ℕ) → t ≤ d → (suc d ≡ suc e) ⊎ (suc d < suc e) → g d ≤ y
-      go d l (inl q) = let p : d ≡ e = omega arith in omega (arith, ap g p)
-      go d l (inr q) = omega (arith, s .most d l (omega arith))
-
-  pub summed-take : t ≤ e → e < stop → greatest < x → Summed g t stop (e + 1) x
-  summed-take l m h = summed-with (omega arith) (omega arith) (omega (arith, is-greatest g t (stop - suc t) .most e l (omega arith)))
-
-  pub summed-keep : x ≤ greatest → Summed g t stop (e + 1) greatest
-  summed-keep h = summed-with (omega arith) h (s .least)
-
-pub summed-all : {g : ℕ → ℕ} {t stop e greatest : ℕ} → Summed g t stop e greatest → t < stop → stop ≤ e → greatest ≡ g (firstGreatest g t (stop - suc t))
-summed-all {g} {t} {stop} s l h =
-    let p = is-greatest g t (stop - suc t) in
-    omega (arith, s .least, s .most (firstGreatest g t (stop - suc t)) (p .low) (omega (arith, p .high)))
-
 -- ---- an end and its sum, from the table
 
 module _ {scores sums : List ℕ} {T h k : ℕ} (c t : ℕ) (b : Filled scores T h k sums) (l : c < k) (r : h ≤ suc (t + suc c)) (f : t + suc c < T) where
@@ -120,58 +93,88 @@ module _ {scores sums : List ℕ} {T h k : ℕ} (c t : ℕ) (b : Filled scores T
 
   -- so what the program stores is the greatest sum; and the entries that it is made from are small
   table-best : {x : ℕ} → IsGreatestSum scores sums c t (T - c - 1) x → x ≡ bestSum (tableScore scores) T (c + 1) t
-  table-best s = s .sum ∙ ap (runSum scores sums c t) (table-end _ refl) ∙ rw add-one table-greatest
+  table-best s = at-first-greatest (s .sum) (omega arith) ∙ ap (runSum scores sums c t) (table-end _ refl) ∙ rw add-one table-greatest
 
   pub table-small : SmallAfter sums c t (T - c - 1)
-  table-small = record { at = λ e m n. b .at c (suc e) l (omega arith) (omega arith) .small }
+  table-small = record { small = record { at = λ e m n. b .at c (suc e) l (omega arith) (omega arith) .small } }
 
 -- ---- filling the table
 
--- the rows below k are filled, and row k below column t
-pub record PartlyFilled (scores : List ℕ) (T h k t : ℕ) (sums : List ℕ) : Type 0 where
+-- the rows below k are filled, and row k from column a to column e - 1
+pub record PartlyFilled (scores : List ℕ) (T h k a e : ℕ) (sums : List ℕ) : Type 0 where
   pub rows : Filled scores T h k sums
-  pub row : (s : ℕ) → s < t → h ≤ suc (s + k) → s + k < T → Entry scores T sums k s
+  pub row : (s : ℕ) → a ≤ s → s < e → Entry scores T sums k s
 
--- with no row, with no column of the next row that is reached, with one column more, and with the whole row
+-- with no row, with no column of the next row, with one column more, and with the columns that are reached
 pub filled-none : {scores : List ℕ} {T h : ℕ} {sums : List ℕ} → length sums ≡ 9216 → Filled scores T h 0 sums
 filled-none e = record { size = e; at = λ c t l r f. absurd (omega arith) }
 
-pub partly-none : {scores : List ℕ} {T h k t : ℕ} {sums : List ℕ} → Filled scores T h k sums → t + k < h → PartlyFilled scores T h k t sums
-partly-none b m = record { rows = b; row = λ s l r f. absurd (omega arith) }
+pub partly-none : {scores : List ℕ} {T h k a : ℕ} {sums : List ℕ} → Filled scores T h k sums → PartlyFilled scores T h k a a sums
+partly-none b = record { rows = b; row = λ s l m. absurd (omega arith) }
 
-module _ {scores : List ℕ} {T h k t : ℕ} {sums : List ℕ} (b : PartlyFilled scores T h k t sums) where
-  pub partly-more : (i x : ℕ) → t + k < T → T ≤ 96 → i ≡ k * 96 + t → x ≡ bestSum (tableScore scores) T k t → x ≤ 255 * suc k
-      → PartlyFilled scores T h k (t + 1) (set sums i x)
+module _ {scores : List ℕ} {T h k a e : ℕ} {sums : List ℕ} (b : PartlyFilled scores T h k a e sums) where
+  -- column t is the only one that the wider range has besides
+  pub partly-more : (t i x : ℕ) {a′ e′ : ℕ} → ((s : ℕ) → a′ ≤ s → s < e′ → (s ≡ t → ⊥) → (a ≤ s) × (s < e)) → t + k < T → T ≤ 96 → i ≡ k * 96 + t
+      → x ≡ bestSum (tableScore scores) T k t → x ≤ 255 * suc k → PartlyFilled scores T h k a′ e′ (set sums i x)
   unfolding rowSum
-  partly-more i x f w q v m = record {
+  partly-more t i x {a′} {e′} o f w q v m = record {
     rows = record {
       size = length-set sums i x ∙ b .rows .size;
       at = λ c s l r z. other c s (λ y. omega arith) (b .rows .at c s l r z);
     };
-    row = λ s l r z. go s r z (eq-or-lt-of-le (let y : suc s ≤ suc t = omega arith in y));
+    row = λ s l r. go s l r (eqb s t) refl;
   }
     where
       other : (c s : ℕ) → (c * 96 + s ≡ i → ⊥) → Entry scores T sums c s → Entry scores T (set sums i x) c s
-      other c s d n = let e = getD-set-other sums i (c * 96 + s) x 0 d in record { best = e ∙ n .best; small = omega (arith, e, n .small) }
+      other c s d n = let g = getD-set-other sums i (c * 96 + s) x 0 d in record { best = g ∙ n .best; small = omega (arith, g, n .small) }
 
       here : getD (set sums i x) (k * 96 + t) 0 ≡ x
       here = rw q (getD-set-same sums (k * 96 + t) x 0 (omega (arith, b .rows .size)))
 
-      go : (s : ℕ) → h ≤ suc (s + k) → s + k < T → (suc s ≡ suc t) ⊎ (suc s < suc t) → Entry scores T (set sums i x) k s
-      go s r z (inl d) = let y : s ≡ t = omega arith in rw y (record { best = here ∙ v; small = omega (arith, here) })
-      go s r z (inr d) = other k s (λ y. omega arith) (b .row s (omega arith) r z)
+      go : (s : ℕ) → a′ ≤ s → s < e′ → (y : Bool) → eqb s t ≡ y → Entry scores T (set sums i x) k s
+      go s l r true y = rw (eqb-true s t y) (record { best = here ∙ v; small = omega (arith, here) })
+      go s l r false y = let d = eqb-false s t y in let p = o s l r d in other k s (λ z. d (omega arith)) (b .row s (p .0) (p .1))
 
-  pub partly-all : {j : ℕ} → T ≤ t + k → j ≡ k + 1 → Filled scores T h j sums
-  partly-all w q = record { size = b .rows .size; at = λ c s l r f. go c s r f (eq-or-lt-of-le (let y : suc c ≤ suc k = omega arith in y)) }
+  pub partly-all : {j : ℕ} → a + k < h → T ≤ e + k → j ≡ k + 1 → Filled scores T h j sums
+  partly-all u w q = record { size = b .rows .size; at = λ c s l r f. go c s r f (eq-or-lt-of-le (let y : suc c ≤ suc k = omega arith in y)) }
     where
       go : (c s : ℕ) → h ≤ suc (s + c) → s + c < T → (suc c ≡ suc k) ⊎ (suc c < suc k) → Entry scores T sums c s
-      go c s r f (inl z) = let y : c ≡ k = omega arith in rw y (b .row s (omega arith) (omega arith) (omega arith))
+      go c s r f (inl z) = let y : c ≡ k = omega arith in rw y (b .row s (omega arith) (omega arith))
       go c s r f (inr z) = b .rows .at c s (omega arith) r f
 
--- one column more of row c + 1, from row c
-pub row-more : {scores : List ℕ} {T h c t : ℕ} {sums : List ℕ} (x : ℕ) → PartlyFilled scores T h (c + 1) t sums → h ≤ suc (t + suc c) → t + suc c < T → T ≤ 96
-    → IsGreatestSum scores sums c t (T - c - 1) x → PartlyFilled scores T h (c + 1) (t + 1) (set sums ((c + 1) * 96 + t) x)
-row-more {c = c} {t = t} x b r f w s = partly-more b _ x (omega arith) w refl (table-best c t (b .rows) (omega arith) r f s) (omega (arith, s .small))
+-- the greatest sum with c cuts after an end e
+abbrev bestAfter : List ℕ → ℕ → ℕ → ℕ → ℕ
+bestAfter scores T c e = bestSum (tableScore scores) T c (suc e)
+
+-- the rows up to c are filled, and row c + 1 from column t on; and s is the greatest sum with c cuts after an end from t on
+pub record RowFrom (scores : List ℕ) (T h c t s : ℕ) (sums : List ℕ) : Type 0 where
+  pub partly : PartlyFilled scores T h (c + 1) t (T - c - 1) sums
+  pub rest : GreatestOf (bestAfter scores T c) t (T - c - 1) s
+
+-- with no column, and with the column before
+pub row-none : {scores : List ℕ} {T h c : ℕ} {sums : List ℕ} → Filled scores T h (c + 1) sums → RowFrom scores T h c (T - c - 1) 0 sums
+row-none b = record { partly = partly-none b; rest = greatest-none }
+
+module _ {scores : List ℕ} {T h c u s : ℕ} {sums : List ℕ} (b : RowFrom scores T h c u s sums) (t : ℕ) {y : ℕ}
+    (n : u ≡ t + 1) (o : h ≤ suc (t + suc c)) (f : t + suc c < T) (q : y ≡ max s (getD sums (c * 96 + 1 + t) 0)) where
+  -- row c has these sums
+  after-best : (e : ℕ) → t ≤ e → e < T - c - 1 → bestAfter scores T c e ≡ rowAfter sums c e
+  after-best e l m = sym (b .partly .rows .at c (suc e) (omega arith) (omega arith) (omega arith) .best)
+
+  -- the greater of s and the next of them is the greatest from t on, and so in row c, too
+  rest-more : GreatestOf (bestAfter scores T c) t (T - c - 1) y
+  rest-more =
+      greatest-both (greatest-one (after-in sums c t ∙ sym (after-best t (omega arith) (omega arith)))) (rw n at (b .rest)) (omega arith) (omega arith) (omega arith)
+
+  pub rest-in-table : GreatestOf (rowAfter sums c) t (T - c - 1) y
+  rest-in-table = greatest-of-same after-best rest-more
+
+  -- with x stored in column t
+  pub row-more : (x : ℕ) → T ≤ 96 → IsGreatestSum scores sums c t (T - c - 1) x → RowFrom scores T h c t y (set sums ((c + 1) * 96 + t) x)
+  row-more x w g = record {
+    partly = partly-more (b .partly) t _ x (λ d l m i. (omega arith, m)) (omega arith) w refl (table-best c t (b .partly .rows) (omega arith) o f g) (omega (arith, g .small));
+    rest = rest-more;
+  }
 
 -- fewer rows
 pub filled-fewer : {scores : List ℕ} {T h k j : ℕ} {sums : List ℕ} → Filled scores T h k sums → j ≤ k → Filled scores T h j sums

@@ -14,7 +14,7 @@ use Rattle.sets.specs.Sets.{In, setOf}
 use Rattle.sets.proofs.Bools.{clash}
 use Rattle.sets.proofs.Tables.{tabulate-length, tabulate-at}
 use Rattle.sets.proofs.Sets.{not-in-none, set-lt, in-set, of-set, of-set-lt, ext}
-use Rattle.days.specs.Days.{neighbours, tickWords, dayWords, IsDay}
+use Rattle.days.specs.Days.{neighbours, tickWords, dayWords, IsTick, IsDay}
 
 -- a tick has n words, and a day of T ticks T * n
 pub tick-length : (n : ℕ) (r : ℕ → ℕ → Bool) → length (tickWords n r) ≡ n
@@ -117,12 +117,13 @@ relation-day n T r f g = record {
   };
 }
 
--- whether words are a day's depends on the first T * n alone
-pub day-head : (n T : ℕ) (xs ys : List ℕ) → ((t u : ℕ) → t < T → u < n → neighbours n xs t u ≡ neighbours n ys t u) → IsDay n T xs → IsDay n T ys
-day-head n T xs ys e d = record {
-  tick = λ t h. record {
-    irreflexive = λ u k i. d .tick t h .irreflexive u k (rw (e t u h k) i);
-    within = λ u k. rw (← e t u h k) (d .tick t h .within u k);
-    symmetric = λ u v k l i. rw (← e t v h l) (d .tick t h .symmetric u v k l (rw (e t u h k) i));
-  };
+-- whether rows are those of a tick depends on the rows below n alone, and whether words are a day's on the first T * n alone
+pub tick-same : (n : ℕ) (p q : ℕ → ℕ) → ((u : ℕ) → u < n → p u ≡ q u) → IsTick n p → IsTick n q
+tick-same n p q e d = record {
+  irreflexive = λ u k i. d .irreflexive u k (rw (e u k) i);
+  within = λ u k. rw (← e u k) (d .within u k);
+  symmetric = λ u v k l i. rw (← e v l) (d .symmetric u v k l (rw (e u k) i));
 }
+
+pub day-head : (n T : ℕ) (xs ys : List ℕ) → ((t u : ℕ) → t < T → u < n → neighbours n xs t u ≡ neighbours n ys t u) → IsDay n T xs → IsDay n T ys
+day-head n T xs ys e d = record { tick = λ t h. tick-same n (neighbours n xs t) (neighbours n ys t) (λ u k. e t u h k) (d .tick t h) }

@@ -8,6 +8,7 @@ use lib.Dec.{ltb}
 use lib.ListN.{length, getD}
 use Rattle.sets.specs.Bools.{_and_, _or_, isnt, all}
 use Rattle.sets.specs.Sets.{In, has, setOf}
+use Rattle.sets.specs.Members.{capacity}
 use Rattle.sets.specs.Tables.{tabulate}
 use Rattle.records.specs.declared.record.Record.{Record}
 use Rattle.records.specs.Limits.{withinLimits, wordsFor}
@@ -24,6 +25,10 @@ adjacent n ws t u v = has (neighbours n ws t u) v
 -- the words of one tick: for each badge, those that a relation joins to it
 unfoldable pub tickWords : ℕ → (ℕ → ℕ → Bool) → List ℕ
 tickWords n r = tabulate n (λ u. setOf n (r u))
+
+-- the rows of one tick, a word for each badge that a set can hold: those that there are, then 0
+unfoldable pub tickRows : List ℕ → List ℕ
+tickRows tick = tabulate capacity (λ u. getD tick u 0)
 
 -- the words of a day, tick by tick: r t u v says whether u and v are in contact in tick t
 unfoldable pub dayWords : ℕ → ℕ → (ℕ → ℕ → ℕ → Bool) → List ℕ

@@ -5,6 +5,7 @@ ghost use lib.ListN.{length};
 ghost use Rattle.records.specs.Limits.{maxBadges, wordsFor};
 ghost use Rattle.days.specs.Days.{isDay};
 ghost use Rattle.days.specs.Calls.{checkOf, checkedOutcome};
+use crate::comparing::changes;
 use records::Refusal;
 use records::within_limits;
 use sets::BadgeSet;
@@ -15,8 +16,9 @@ pub enum Checked {
     Refused(Refusal),
 }
 
-// Whether the words are a day: the search goes tick by tick and badge by badge, and stops at the first pair that breaks it. A row's own
-// bit and its bits from n up are tested at once, before its set bits are walked for one that has no mirror.
+// Whether the words are a day: the search goes tick by tick and badge by badge, and stops at the first pair that breaks it. After a tick of a day
+// only a pair that changes can break the next, so it looks at the changes alone. It looks at each pair once: the walk over u's row takes u out of
+// the rows of the others. A row's own bit and its bits from n up are tested at once, before its set bits are walked for one that has no mirror.
 fn is_day(words: &[u64], n: usize, ticks: usize) -> bool
     requires { ⌜ (n ≤ maxBadges) × (wordsFor n ticks ≤ length (now words)) ⌝ }
     ensures { λ r. ⌜ r ≡ isDay n ticks (now (words .entry)) ⌝ }
@@ -24,20 +26,24 @@ fn is_day(words: &[u64], n: usize, ticks: usize) -> bool
     let mut good = true;
     let badges = BadgeSet::full(n);
     'scan: for t in 0..ticks {
-        let base = t * n;
-        let tick = &words[base..base + n];
+        let mut changed = changes(words, n, t);
         for u in 0..n {
-            let mut unseen = BadgeSet::from_word(tick[u]);
+            let mut unseen = BadgeSet::from_word(changed[u]);
+            if unseen.is_empty() {
+                continue;
+            }
             if !unseen.is_subset(badges.without(u)) {
                 good = false;
                 break 'scan;
             }
             while !unseen.is_empty() {
                 let v = unseen.smallest();
-                if !BadgeSet::from_word(tick[v]).has(u) {
+                let other = BadgeSet::from_word(changed[v]);
+                if !other.has(u) {
                     good = false;
                     break 'scan;
                 }
+                changed[v] = other.without(u).to_word();
                 unseen = unseen.rest();
             }
         }

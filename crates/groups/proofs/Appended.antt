@@ -6,13 +6,14 @@ use Prim.Native.Nat.{ℕ, suc, _+_, _-_, _*_, _≤_}
 use native.Mathlib.Numerals.{add-one}
 use native.Mathlib.Omega.{arith}
 use lib.Dec.{leb, ltb}
-use lib.ListN.{length, getD, take, length-append}
+use lib.ListN.{length, getD, take, drop, length-append}
+use lib.Seq.{drop-drop}
 use borrow.Author.Tests.{le-leb, leb-true}
 use Rattle.sets.specs.Bools.{_and_}
 use Rattle.sets.specs.Tables.{concatBelow, keepIf}
 use Rattle.sets.proofs.Concat.{concat-nil, keep-nil, keep-all, keep-le, concat-from}
 use Rattle.log.specs.Buffers.{place}
-use Rattle.log.proofs.Delivering.{length-place, take-place}
+use Rattle.log.proofs.Delivering.{length-place, take-place, drop-place}
 use Rattle.thresholds.specs.declared.Thresholds.{Thresholds}
 use Rattle.spans.specs.SpanCores.{SpanCore}
 use Rattle.spans.specs.KeptGroups.{kept}
@@ -21,11 +22,17 @@ use Rattle.spans.proofs.Encoding.{encode-core-length, encode-cores-append}
 use Rattle.spans.proofs.KeptRecords.{kept-le, kept-append}
 use Rattle.groups.specs.Appending.{AppendsCores}
 
+-- lists that are the same from a place on are so from a later place on
+pub further : (m n : ℕ) (xs ys : List ℕ) → m ≤ n → drop m xs ≡ drop m ys → drop n xs ≡ drop n ys
+further m n xs ys l e =
+    let q : m + (n - m) ≡ n = omega arith in
+    rw q at (sym (drop-drop (n - m) m xs) ∙ ap (drop (n - m)) e ∙ drop-drop (n - m) m ys)
+
 module _ {mark : List ℕ} {header : ℕ} where
   -- nothing is appended
   pub appends-none : {count : ℕ} {buffer : List ℕ} → AppendsCores mark header [] count count buffer buffer
   unfolding encodeCores
-  appends-none = record { number = omega arith; size = refl; bytes = sym (append-nil _) }
+  appends-none = record { number = omega arith; size = refl; bytes = sym (append-nil _); rest = refl }
 
   -- one list after another
   pub appends-then : {xs ys : List SpanCore} {i j k : ℕ} {x y z : List ℕ} → AppendsCores mark header xs i j x y → AppendsCores mark header ys j k y z
@@ -36,6 +43,7 @@ module _ {mark : List ℕ} {header : ℕ} where
     bytes =
         f .bytes ∙ ap (λ (s : List ℕ). s ++ encodeCores mark ys) (e .bytes) ∙ append-assoc (take (header + 13 * i) x) (encodeCores mark xs) (encodeCores mark ys)
         ∙ ap (λ (s : List ℕ). take (header + 13 * i) x ++ s) (sym (encode-cores-append mark xs ys));
+    rest = f .rest ∙ further (header + 13 * j) (header + 13 * k) y x (omega (arith, f .number)) (e .rest);
   }
 
   -- one record
@@ -51,6 +59,7 @@ module _ {mark : List ℕ} {header : ℕ} where
         number = omega arith;
         size = ap length e ∙ length-place at bytes buffer (omega arith);
         bytes = rw (next, e) (take-place at bytes buffer (omega arith)) ∙ ap (λ (s : List ℕ). take at buffer ++ s) (sym (append-nil bytes));
+        rest = rw (next, e) (drop-place at bytes buffer (omega arith));
       }
 
   -- a loop's turn: what is kept of the next list

@@ -1,33 +1,26 @@
--- Laws of the loops that work out a span's rows: rows filled from the front, and rows narrowed tick by tick.
+-- Laws of the loops that work out a span's rows, narrowed tick by tick.
 use mathlib.Core.Path.{_≡_, refl, sym, ap, _∙_}
 use mathlib.Core.List.{List}
 use mathlib.Core.Logic.{by-cases}
-use Prim.Native.Nat.{ℕ, suc, _+_, _-_, _*_, _≤_, _<_, min}
+use Prim.Native.Nat.{ℕ, suc, _+_, _-_, _*_, _≤_, _<_}
 use native.Mathlib.Nat.{le-refl, suc-mul}
 use native.Mathlib.Numerals.{add-one}
 use native.Mathlib.Decide.{ℕ-discrete}
 use native.Mathlib.Omega.{arith}
-use lib.ListN.{length, getD, set, take, drop, length-set, length-drop, List·getD-eq-default}
+use lib.ListN.{length, getD, set, take, drop, length-set, length-drop}
 use lib.Seq.{length-take-le, getD-set-same, getD-set-other}
 use Rattle.sets.specs.Sets.{intersection, full}
 use Rattle.sets.specs.Members.{capacity}
 use Rattle.sets.specs.Tables.{tabulate, piecewise}
 use Rattle.sets.proofs.Sets.{in-full, of-full}
-use Rattle.sets.proofs.Tables.{tabulate-length, tabulate-at, tabulate-is, piecewise-in, piecewise-out, piecewise-same, front, front-done}
+use Rattle.sets.proofs.Tables.{tabulate-length, tabulate-at, tabulate-is, piecewise-in, piecewise-out, piecewise-same}
 use Rattle.records.proofs.WithinLimits.{limits-of}
+use Rattle.days.specs.Days.{tickRows}
 use Rattle.days.proofs.Days.{tick-fits}
 use Rattle.spans.specs.Spans.{SpanOfDay, spanRows}
 use Rattle.spans.proofs.SpanRows.{span-length}
-use Rattle.groups.specs.Steps.{tickOf, tickRows, narrowed, Narrows, RowsTo}
-use Rattle.groups.proofs.TickRows.{tick-span, narrow-span}
-
--- filled as far as there are words, the rows are those of the tick
-past : (tick : List ℕ) {m u : ℕ} → u ≡ min m (length tick) → (k : ℕ) → u ≤ k → k < m → getD tick k 0 ≡ 0
-past tick e k l r = List·getD-eq-default tick 0 (omega arith)
-
-pub tick-done : (tick : List ℕ) {out : List ℕ} {u : ℕ} → u ≡ min capacity (length tick) → out ≡ front capacity (λ k. getD tick k 0) u → out ≡ tickRows tick
-unfolding tickRows
-tick-done tick e o = front-done capacity _ (omega arith) (past tick e) o
+use Rattle.groups.specs.Steps.{tickOf, NextTick, Narrows, RowsTo}
+use Rattle.groups.proofs.TickRows.{tick-span, narrowed, narrow-span}
 
 -- Rows that are narrowed in place, row by row: at the start, after one row more, and where the tick ends.
 module _ (rows tick : List ℕ) where
@@ -59,9 +52,18 @@ module _ (rows tick : List ℕ) where
   unfolding narrowed
   narrow-done e o = rw e at o
 
--- narrowed rows are, for the rows of any span and the next tick, those of the longer span
-pub narrows : {rows tick out : List ℕ} → out ≡ narrowed rows tick → Narrows rows tick out
-narrows {rows} {tick} {out} o = record { span = λ n ws first last w h e f g. o ∙ rw (e, f) (narrow-span n ws first last w h (rw f at g)) }
+-- what a step is given: as many rows as a set holds badges, and no more words
+pub step-rows : {rows tick : List ℕ} → NextTick rows tick → length rows ≡ capacity
+step-rows s = ap length (s .span) ∙ span-length (s .badges) (s .words) (s .first) (s .last)
+
+pub step-words : {rows tick : List ℕ} → NextTick rows tick → length tick ≤ capacity
+step-words s = omega (arith, s .whole, s .few)
+
+-- narrowed, the rows are those of the longer span
+pub step-longer : {rows tick out : List ℕ} → out ≡ narrowed rows tick → Narrows rows tick out
+step-longer o = record {
+  span = λ s. o ∙ rw (s .span, s .next) (narrow-span (s .badges) (s .words) (s .first) (s .last) (s .few) (s .rising) (rw (s .next) at (s .whole)));
+}
 
 -- the words of a tick of a span are among the words, from t * n on, and the n words from there are the tick's
 pub tick-inside : {n T : ℕ} {ws : List ℕ} {first last : ℕ} (t : ℕ) → SpanOfDay n T ws first last → t ≤ last → t * n + n ≤ length ws
@@ -86,13 +88,17 @@ module _ {n T : ℕ} {ws : List ℕ} {first last : ℕ} (d : SpanOfDay n T ws fi
   few : n ≤ capacity
   few = limits-of (d .lent .limits) .few
 
-  -- the rows of the first tick alone
-  pub first-rows : {rows : List ℕ} → rows ≡ tickRows (take (first * n + n - first * n) (drop (first * n) ws)) → RowsTo n ws first last rows first
-  first-rows e = record {
-    low = le-refl first;
-    high = d .rising;
-    are = e ∙ ap tickRows (slice-tick n ws first refl) ∙ tick-span n T ws first (d .lent .day) (omega (arith, d .rising, d .inside));
-  }
+  -- the rows of the first tick are those of its span
+  pub first-tick : {rows : List ℕ} → rows ≡ tickRows (take (first * n + n - first * n) (drop (first * n) ws)) → rows ≡ spanRows n ws first first
+  first-tick e = e ∙ ap tickRows (slice-tick n ws first refl) ∙ tick-span n T ws first (d .lent .day) (omega (arith, d .rising, d .inside))
+
+  -- and a longer span starts with them
+  pub first-of : {rows : List ℕ} → rows ≡ spanRows n ws first first → RowsTo n ws first last rows first
+  first-of e = record { low = le-refl first; high = d .rising; are = e }
+
+  -- the span of its first tick alone
+  pub first-alone : SpanOfDay n T ws first first
+  first-alone = record { lent = d .lent; rising = le-refl first; inside = omega (arith, d .rising, d .inside) }
 
   module _ {t at : ℕ} {rows : List ℕ} (g : Going n ws first last t at rows) (l : t < last) where
     next-place : at + n ≡ suc t * n
@@ -101,18 +107,28 @@ module _ {n T : ℕ} {ws : List ℕ} {first last : ℕ} (d : SpanOfDay n T ws fi
     pub next-inside : at + n + n ≤ length ws
     next-inside = omega (arith, next-place, tick-inside (suc t) d l)
 
-    pub next-length : length (take (at + n + n - (at + n)) (drop (at + n) ws)) ≡ n
+    next-length : length (take (at + n + n - (at + n)) (drop (at + n) ws)) ≡ n
     next-length =
         let e : at + n + n - (at + n) ≡ n = omega arith in
         rw e (length-take-le n (drop (at + n) ws) (omega (arith, next-inside, length-drop (at + n) ws)))
 
+    -- the words from there on are those of the next tick
+    pub going-step : NextTick rows (take (at + n + n - (at + n)) (drop (at + n) ws))
+    going-step = record {
+      badges = n;
+      words = ws;
+      first = first;
+      last = t;
+      few = few;
+      rising = g .low;
+      span = g .rows;
+      next = slice-tick n ws (suc t) next-place;
+      whole = next-length;
+    }
+
     pub going-next : {longer : List ℕ} → Narrows rows (take (at + n + n - (at + n)) (drop (at + n) ws)) longer → Going n ws first last (t + 1) (at + n) longer
-    going-next h = rw add-one (record {
-      low = omega (arith, g .low);
-      high = l;
-      place = next-place;
-      rows = h .span n ws first t few (g .low) (g .rows) (slice-tick n ws (suc t) next-place) next-length;
-    })
+    unfolding going-step
+    going-next h = rw add-one (record { low = omega (arith, g .low); high = l; place = next-place; rows = h .span going-step })
 
 -- rows of a span are as many as a set holds badges
 pub going-size : {n : ℕ} {ws : List ℕ} {first last t at : ℕ} {rows : List ℕ} → Going n ws first last t at rows → length rows ≡ capacity

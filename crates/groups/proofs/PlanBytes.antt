@@ -12,12 +12,14 @@ use Rattle.records.specs.declared.record.Record.the-variants.{End}
 use Rattle.records.specs.Limits.{maxTicks}
 use Rattle.records.specs.Records.{encode}
 use Rattle.records.proofs.Records.{length-encode}
+use Rattle.records.proofs.WithinLimits.{limits-of}
 use Rattle.log.specs.Buffers.{place}
 use Rattle.log.proofs.Delivering.{take-place}
 use Rattle.cuts.specs.Cuttings.{Cutting}
+use Rattle.cuts.specs.Sums.{tableScore}
 use Rattle.spans.specs.Spans.{SpanOfDay}
 use Rattle.spans.specs.SpanCores.{SpanCore}
-use Rattle.spans.specs.Plans.{partOn, partsFrom}
+use Rattle.spans.specs.Plans.{scoreOn, partOn, partsFrom}
 use Rattle.spans.specs.Encoding.{encodeCore, encodeCores, planBytes}
 use Rattle.spans.proofs.Encoding.{encode-core-length}
 use Rattle.groups.specs.Appending.{AppendsCores}
@@ -53,8 +55,8 @@ module _ (T h : ℕ) (ends : List ℕ) (c : Cutting T h (take h ends)) where
   end-inside (suc d) i e = omega (arith, end-rises i (omega arith), end-inside d (suc i) (omega arith))
 
 -- Before the turn of part i: the parts before it are appended, and it starts after the end of the last.
-pub record PlanSoFar (n T : ℕ) (ws : List ℕ) (query h : ℕ) (ends : List ℕ) (i first count : ℕ) (buffer₀ buffer : List ℕ) : Type 0 where
-  pub asked : PlanParts n T ws query h ends buffer
+pub record PlanSoFar (n T : ℕ) (ws : List ℕ) (query h : ℕ) (ends scores : List ℕ) (i first count : ℕ) (buffer₀ buffer : List ℕ) : Type 0 where
+  pub asked : PlanParts n T ws query h ends scores buffer
   pub high : i ≤ h
   pub number : count ≡ i
   pub next : first ≡ nextFirst 0 (take i ends)
@@ -62,18 +64,18 @@ pub record PlanSoFar (n T : ℕ) (ws : List ℕ) (query h : ℕ) (ends : List �
   pub appended : AppendsCores (ascii "PT") 13 (partsFrom n ws query 0 (take i ends)) 0 count buffer₀ buffer
 
 -- a buffer of the same length does as well
-same-room : {n T : ℕ} {ws : List ℕ} {query h : ℕ} {ends x y : List ℕ} → length y ≡ length x → PlanParts n T ws query h ends x → PlanParts n T ws query h ends y
-same-room e p = record { lent = p .lent; cutting = p .cutting; ends-size = p .ends-size; room = omega (arith, p .room) }
+same-room : {n T : ℕ} {ws : List ℕ} {query h : ℕ} {ends scores x y : List ℕ} → length y ≡ length x → PlanParts n T ws query h ends scores x → PlanParts n T ws query h ends scores y
+same-room e p = record { lent = p .lent; scored = p .scored; cutting = p .cutting; ends-size = p .ends-size; room = omega (arith, p .room) }
 
 -- there are no more parts than ticks
-pub parts-few : {n T : ℕ} {ws : List ℕ} {query h : ℕ} {ends buffer : List ℕ} → PlanParts n T ws query h ends buffer → h ≤ maxTicks
+pub parts-few : {n T : ℕ} {ws : List ℕ} {query h : ℕ} {ends scores buffer : List ℕ} → PlanParts n T ws query h ends scores buffer → h ≤ maxTicks
 parts-few {h = h} {ends = ends} p = omega (arith, p .cutting .count, p .ends-size, length-take h ends)
 
-pub plan-none : {n T : ℕ} {ws : List ℕ} {query h : ℕ} {ends given buffer : List ℕ} → length buffer ≡ length given → PlanParts n T ws query h ends given → PlanSoFar n T ws query h ends 0 0 0 buffer buffer
+pub plan-none : {n T : ℕ} {ws : List ℕ} {query h : ℕ} {ends scores given buffer : List ℕ} → length buffer ≡ length given → PlanParts n T ws query h ends scores given → PlanSoFar n T ws query h ends scores 0 0 0 buffer buffer
 unfolding partsFrom nextFirst
 plan-none e p = record { asked = same-room e p; high = zero-le; number = refl; next = refl; low = λ l. zero-le; appended = appends-none }
 
-module _ {n T : ℕ} {ws : List ℕ} {query h : ℕ} {ends : List ℕ} {i first count : ℕ} {buffer₀ buffer : List ℕ} (s : PlanSoFar n T ws query h ends i first count buffer₀ buffer) where
+module _ {n T : ℕ} {ws : List ℕ} {query h : ℕ} {ends scores : List ℕ} {i first count : ℕ} {buffer₀ buffer : List ℕ} (s : PlanSoFar n T ws query h ends scores i first count buffer₀ buffer) where
   pub plan-few : count ≤ maxTicks
   plan-few = omega (arith, parts-few (s .asked), s .number, s .high)
 
@@ -81,11 +83,19 @@ module _ {n T : ℕ} {ws : List ℕ} {query h : ℕ} {ends : List ℕ} {i first 
     pub plan-span : SpanOfDay n T ws first (getD ends i 0)
     plan-span = record { lent = s .asked .lent; rising = s .low l; inside = end-inside T h ends (s .asked .cutting) (h - suc i) i (omega arith) }
 
+    -- the run's place in the table of scores, and the score that stands there
+    pub plan-place : first * 96 + getD ends i 0 < 9216
+    plan-place = omega (arith, plan-span .rising, plan-span .inside, limits-of (s .asked .lent .limits) .short)
+
+    pub plan-score : getD scores (first * 96 + getD ends i 0) 0 ≡ scoreOn n ws query first (getD ends i 0)
+    unfolding tableScore
+    plan-score = s .asked .scored .score first (getD ends i 0) (omega (arith, plan-span .rising, plan-span .inside)) (plan-span .rising) (plan-span .inside)
+
     pub plan-room : 13 + 13 * count + 13 ≤ length buffer
     plan-room = omega (arith, s .asked .room, s .number)
 
     pub plan-next : {last count′ : ℕ} {buffer′ : List ℕ} → last ≡ getD ends i 0 → AppendsCores (ascii "PT") 13 (partOn n ws query first last ∷ []) count count′ buffer buffer′
-        → PlanSoFar n T ws query h ends (i + 1) (last + 1) count′ buffer₀ buffer′
+        → PlanSoFar n T ws query h ends scores (i + 1) (last + 1) count′ buffer₀ buffer′
     plan-next {last} {count′} {buffer′} e a =
         let t : take (suc i) ends ≡ take i ends ++ (getD ends i 0 ∷ []) = take-suc ends i 0 (omega (arith, parts-few (s .asked), s .asked .ends-size)) in
         let p : partsFrom n ws query 0 (take (suc i) ends) ≡ partsFrom n ws query 0 (take i ends) ++ (partOn n ws query first last ∷ []) = rw (t, parts-more n ws query 0 (take i ends) (getD ends i 0), ← s .next, ← e) in
@@ -101,12 +111,12 @@ module _ {n T : ℕ} {ws : List ℕ} {query h : ℕ} {ends : List ℕ} {i first 
         })
 
 -- the header and the end make it a plan
-pub plan-end : {n T : ℕ} {ws : List ℕ} {query h : ℕ} {ends : List ℕ} {i first count : ℕ} {buffer₀ buffer : List ℕ} (given left header : List ℕ)
-    → PlanSoFar n T ws query h ends i first count buffer₀ buffer → h ≤ i → 13 ≤ length given
+pub plan-end : {n T : ℕ} {ws : List ℕ} {query h : ℕ} {ends scores : List ℕ} {i first count : ℕ} {buffer₀ buffer : List ℕ} (given left header : List ℕ)
+    → PlanSoFar n T ws query h ends scores i first count buffer₀ buffer → h ≤ i → 13 ≤ length given
     → header ≡ encodeCore (ascii "PH") (record { order = n; first = T; last = h; members = query }) → buffer₀ ≡ place 0 header given
     → left ≡ place (13 + 13 * count) (encode (End count)) buffer → EncodesPlan n T ws query h ends left
 unfolding planBytes encodeCore
-plan-end {n} {T} {ws} {query} {h} {ends} {i} {first} {count} {buffer₀} {buffer} given left header s l g q e f =
+plan-end {n} {T} {ws} {query} {h} {ends} {i = i} {first} {count} {buffer₀} {buffer} given left header s l g q e f =
     let j : i ≡ h = omega (arith, s .high) in
     let c : count ≡ h = omega (arith, s .number) in
     let a : AppendsCores (ascii "PT") 13 (partsFrom n ws query 0 (take h ends)) 0 count buffer₀ buffer = rw j at (s .appended) in

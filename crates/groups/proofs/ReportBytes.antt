@@ -3,26 +3,28 @@ use mathlib.Core.Path.{_≡_, refl, sym, ap, ap₂, _∙_}
 use mathlib.Core.List.{List, [], _∷_, _++_, append-assoc}
 use Prim.Native.Nat.{ℕ, suc, _+_, _-_, _*_, _≤_, _<_}
 use native.Mathlib.Omega.{arith}
-use lib.ListN.{length, take, replicate}
+use lib.ListN.{length, take, drop, replicate, take-append-drop}
+use lib.Seq.{take-at}
 use Rattle.sets.specs.Ascii.{ascii}
 use Rattle.sets.specs.Tables.{concatBelow}
 use Rattle.records.specs.declared.record.Record.the-variants.{End}
 use Rattle.records.specs.Limits.{maxTicks}
+use Rattle.records.specs.Outcomes.{success}
 use Rattle.records.specs.Records.{encode}
 use Rattle.records.proofs.Records.{length-encode}
 use Rattle.records.proofs.WithinLimits.{limits-of}
 use Rattle.days.specs.Days.{LentDay}
 use Rattle.log.specs.Buffers.{place}
-use Rattle.log.proofs.Delivering.{take-place}
+use Rattle.log.proofs.Delivering.{take-place, drop-place, deliver-fits}
 use Rattle.thresholds.specs.declared.Thresholds.{Thresholds}
 use Rattle.spans.specs.Reports.{groupsFrom, groupsOf}
 use Rattle.spans.specs.KeptGroups.{kept}
-use Rattle.spans.specs.Encoding.{maxGroups, maxReportBytes, encodeCores, reportBytes}
+use Rattle.spans.specs.Encoding.{spanCount, mostBytes, maxGroups, maxReportBytes, encodeCores, reportBytes}
 use Rattle.spans.proofs.KeptRecords.{kept-le}
-use Rattle.spans.proofs.MostGroups.{groups-before}
+use Rattle.spans.proofs.MostGroups.{report-length, spans-few, groups-before}
 use Rattle.groups.specs.Lines.{ScoresBefore, LineFound}
-use Rattle.groups.specs.Appending.{AppendsCores, lineList, LineRoom, EncodesReport}
-use Rattle.groups.proofs.Appended.{appends-none, appends-more}
+use Rattle.groups.specs.Appending.{AppendsCores, lineList, LineRoom, keptBytes, EncodesReport, DeliversReport}
+use Rattle.groups.proofs.Appended.{further, appends-none, appends-more}
 use Rattle.groups.proofs.LineLaws.{scores-none, scores-more, line-list}
 
 -- Before the turn of a first tick: the groups that are kept of the spans that start before it are appended, and the orders are those of the spans that start
@@ -30,7 +32,7 @@ use Rattle.groups.proofs.LineLaws.{scores-none, scores-more, line-list}
 pub record ReportSoFar (n T : ℕ) (ws : List ℕ) (least : Thresholds) (first count : ℕ) (buffer₀ buffer orders members : List ℕ) : Type 0 where
   pub lent : LentDay n T ws
   pub high : first ≤ T
-  pub room : maxReportBytes ≤ length buffer
+  pub room : mostBytes T ≤ length buffer
   pub members-size : length members ≡ maxTicks
   pub before : ScoresBefore n T ws 0 first orders
   pub appended : AppendsCores (ascii "GR") 4 (kept least (concatBelow first (groupsFrom n T ws))) 0 count buffer₀ buffer
@@ -38,7 +40,7 @@ pub record ReportSoFar (n T : ℕ) (ws : List ℕ) (least : Thresholds) (first c
 short : {n T : ℕ} {ws : List ℕ} → LentDay n T ws → T ≤ maxTicks
 short d = limits-of (d .limits) .short
 
-pub so-far-none : (n T : ℕ) (ws : List ℕ) (least : Thresholds) (buffer : List ℕ) → LentDay n T ws → maxReportBytes ≤ length buffer
+pub so-far-none : (n T : ℕ) (ws : List ℕ) (least : Thresholds) (buffer : List ℕ) → LentDay n T ws → mostBytes T ≤ length buffer
     → ReportSoFar n T ws least 0 0 buffer buffer (replicate 97 0) (replicate 96 0)
 unfolding concatBelow kept
 so-far-none n T ws least buffer d r = record {
@@ -52,11 +54,11 @@ so-far-none n T ws least buffer d r = record {
 
 module _ {n T : ℕ} {ws : List ℕ} {least : Thresholds} {first count : ℕ} {buffer₀ buffer orders members : List ℕ} (s : ReportSoFar n T ws least first count buffer₀ buffer orders members) where
   -- so far there are so few that one more for each last tick has room
-  so-far-few : count + (T - first) ≤ maxGroups
-  so-far-few = omega (arith, s .appended .number, kept-le least (concatBelow first (groupsFrom n T ws)), groups-before n T ws first (s .high) (short (s .lent)))
+  so-far-few : count + (T - first) ≤ spanCount T
+  so-far-few = omega (arith, s .appended .number, kept-le least (concatBelow first (groupsFrom n T ws)), groups-before n T ws first (s .high))
 
-  pub so-far-count : count ≤ maxGroups
-  so-far-count = omega (arith, so-far-few)
+  pub so-far-count : (count ≤ spanCount T) × (count ≤ maxGroups)
+  so-far-count = (omega (arith, so-far-few), omega (arith, so-far-few, spans-few (short (s .lent))))
 
   module _ (l : first < T) {orders′ members′ : List ℕ} (c : LineFound n T ws 0 first orders orders′ members′) where
     pub so-far-room : LineRoom T first count orders′ members′ buffer
@@ -87,7 +89,7 @@ module _ {n T : ℕ} {ws : List ℕ} {least : Thresholds} {first count : ℕ} {b
 -- the header and the end make it a report
 pub so-far-end : {n T : ℕ} {ws : List ℕ} {least : Thresholds} {first count : ℕ} {buffer₀ buffer orders members : List ℕ} (given left : List ℕ)
     → ReportSoFar n T ws least first count buffer₀ buffer orders members → T ≤ first → 4 ≤ length given → buffer₀ ≡ place 0 (ascii "RH" ++ (n ∷ T ∷ [])) given
-    → left ≡ place (4 + 13 * count) (encode (End count)) buffer → EncodesReport n T ws least count left
+    → left ≡ place (4 + 13 * count) (encode (End count)) buffer → EncodesReport n T ws least count given left
 unfolding groupsOf reportBytes
 so-far-end {n} {T} {ws} {least} {first} {count} {buffer₀} {buffer} given left s h l e f =
     let groups = kept least (concatBelow T (groupsFrom n T ws)) in
@@ -95,14 +97,45 @@ so-far-end {n} {T} {ws} {least} {first} {count} {buffer₀} {buffer} given left 
     let a : AppendsCores (ascii "GR") 4 groups 0 count buffer₀ buffer = rw q at (s .appended) in
     let c : count ≡ length groups = omega (arith, a .number) in
     let m : 4 + 13 * count + length (encode (End count)) ≡ 10 + 13 * count = omega (arith, length-encode (End count)) in
-    let k : 10 + 13 * count ≤ length buffer = omega (arith, s .room, so-far-count s) in
+    let k : 10 + 13 * count ≤ length buffer = omega (arith, s .room, so-far-count s .0) in
     let head : take 4 buffer₀ ≡ ascii "RH" ++ (n ∷ T ∷ []) = rw e (take-place 0 (ascii "RH" ++ (n ∷ T ∷ [])) given l) in
+    let front : take (10 + 13 * count) left ≡ reportBytes n T groups =
+    ap₂ (λ (x : ℕ) (y : List ℕ). take x y) (sym m) f
+    ∙ take-place (4 + 13 * count) (encode (End count)) buffer (omega arith)
+    ∙ ap₂ _++_ (a .bytes ∙ ap (λ (x : List ℕ). x ++ encodeCores (ascii "GR") groups) head) (ap (λ (x : ℕ). encode (End x)) c)
+    ∙ append-assoc (ascii "RH" ++ (n ∷ T ∷ [])) (encodeCores (ascii "GR") groups) (encode (End (length groups))) in
+    let laid : drop 4 buffer₀ ≡ drop 4 given = rw e (drop-place 0 (ascii "RH" ++ (n ∷ T ∷ [])) given l) in
+    let back : drop (10 + 13 * count) left ≡ drop (10 + 13 * count) given =
+    ap₂ (λ (x : ℕ) (y : List ℕ). drop x y) (sym m) f
+    ∙ drop-place (4 + 13 * count) (encode (End count)) buffer (omega arith)
+    ∙ ap (λ (x : ℕ). drop x buffer) m
+    ∙ further (4 + 13 * count) (10 + 13 * count) buffer buffer₀ (omega arith) (a .rest)
+    ∙ further 4 (10 + 13 * count) buffer₀ given (omega arith) laid in
     record {
       number = c;
-      few = so-far-count s;
-      bytes =
-          ap₂ (λ (x : ℕ) (y : List ℕ). take x y) (sym m) f
-          ∙ take-place (4 + 13 * count) (encode (End count)) buffer (omega arith)
-          ∙ ap₂ _++_ (a .bytes ∙ ap (λ (x : List ℕ). x ++ encodeCores (ascii "GR") groups) head) (ap (λ (x : ℕ). encode (End x)) c)
-          ∙ append-assoc (ascii "RH" ++ (n ∷ T ∷ [])) (encodeCores (ascii "GR") groups) (encode (End (length groups)));
+      few = so-far-count s .0;
+      bytes = sym (take-append-drop (10 + 13 * count) left) ∙ ap₂ _++_ front back;
     }
+
+-- ---- a report that was encoded, and what is delivered of it
+
+-- a buffer that holds a report with a group on each span holds this one
+pub most-small : {T : ℕ} → T ≤ maxTicks → mostBytes T ≤ maxReportBytes
+most-small s = omega (arith, spans-few s)
+
+module _ {n T : ℕ} {ws : List ℕ} {least : Thresholds} {count : ℕ} {given left : List ℕ} (e : EncodesReport n T ws least count given left) where
+  encoded-size : length (keptBytes n T ws least) ≡ 10 + 13 * count
+  encoded-size = omega (arith, report-length n T (kept least (groupsOf n T ws)), e .number)
+
+  -- its bytes are the first ones
+  pub encoded-front : take (10 + 13 * count) left ≡ keptBytes n T ws least
+  encoded-front = ap (take (10 + 13 * count)) (e .bytes) ∙ take-at (keptBytes n T ws least) (drop (10 + 13 * count) given) (10 + 13 * count) encoded-size
+
+  -- encoded in the buffer that is lent, it is delivered
+  pub encoded-here : 10 + 13 * count ≤ length given → DeliversReport n T ws least (success (10 + 13 * count)) given left
+  encoded-here h =
+      let d = deliver-fits (keptBytes n T ws least) given (omega (arith, encoded-size)) in
+      record {
+        answer = rw d (ap (λ (x : ℕ). success x) (sym encoded-size));
+        leaves = rw d (e .bytes ∙ ap (λ (x : ℕ). keptBytes n T ws least ++ drop x given) (sym encoded-size));
+      }

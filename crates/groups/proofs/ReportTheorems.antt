@@ -32,6 +32,7 @@ use Rattle.spans.proofs.Decoding.{report-said}
 use Rattle.spans.proofs.MostGroups.{groups-few}
 use Rattle.spans.proofs.KeptRecords.{of-kept, kept-le}
 use Rattle.spans.proofs.GroupLists.{of-groups, groups-stated, kept-plain}
+use Rattle.groups.specs.Appending.{keptBytes}
 use Rattle.groups.specs.Calls.{reportJudged, reportOf}
 use Rattle.groups.specs.GroupReports.{ReportsGroups, Reported}
 
@@ -41,12 +42,9 @@ unfolding coreOn
 core-small n ws k first last w =
     omega (arith, sub-lt n (core (spanNeighbours n ws first last) (full n) k) (full n) (core-sub (spanNeighbours n ws first last) (full n) k) (full-lt n), pow-mono w)
 
--- the records that a report keeps of a day's groups, and their bytes
+-- the records that a report keeps of a day's groups
 abbrev pub keptGroups : ℕ → ℕ → List ℕ → Thresholds → List SpanCore
 keptGroups n T ws least = kept least (groupsOf n T ws)
-
-abbrev pub keptBytes : ℕ → ℕ → List ℕ → Thresholds → List ℕ
-keptBytes n T ws least = reportBytes n T (keptGroups n T ws least)
 
 -- the bytes say the records
 pub groups-said : {n T : ℕ} {ws : List ℕ} (least : Thresholds) → LentDay n T ws → reportRecords (keptBytes n T ws least) ≡ keptGroups n T ws least

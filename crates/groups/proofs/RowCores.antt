@@ -9,13 +9,14 @@ use native.Mathlib.Omega.{arith}
 use lib.ListN.{length, getD, List·getD-eq-default}
 use Rattle.sets.specs.Sets.{In, Sub, full, union, intersection, size}
 use Rattle.sets.specs.Members.{capacity}
-use Rattle.sets.proofs.Sets.{not-in-none, some, in-union-left, in-union-right, of-union, of-intersection-left, of-intersection-right, in-full, of-full, sub-antisym}
+use Rattle.sets.proofs.Sets.{not-in-none, some, in-union-left, in-union-right, of-union, of-intersection-left, of-intersection-right, in-full, of-full, sub-refl, sub-antisym}
 use Rattle.sets.proofs.Size.{size-none}
 use Rattle.records.proofs.WithinLimits.{limits-of}
 use Rattle.cores.specs.Graphs.{degree}
 use Rattle.cores.specs.Cores.{core}
 use Rattle.cores.specs.Orders.{highestOrder, highestMembers}
 use Rattle.cores.specs.Rows.{graph}
+use Rattle.cores.specs.Columns.{Symmetric}
 use Rattle.cores.proofs.Degrees.{pairs-refl}
 use Rattle.cores.proofs.Cores.{core-sub, core-cohesive, core-largest, core-mono}
 use Rattle.cores.proofs.Orders.{score-same, highest-same, highest-yes, highest-no}
@@ -44,9 +45,13 @@ module _ (n : ℕ) (ws : List ℕ) (first last : ℕ) (w : n ≤ capacity) {rows
   unfolding scoreOn
   rows-none h = rows-members ∙ highest-no (spanNeighbours n ws first last) (full n) query above most h
 
--- ---- the badges that are in some row
+-- all badges of a day, as a set of the program
+pub sub-capped : {n s : ℕ} → n ≤ capacity → s ≡ full (min n capacity) → Sub s (full n)
+sub-capped {n} w e = let f : min n capacity ≡ n = omega arith in rw (e, f) (sub-refl (full n))
 
-module _ {n T : ℕ} {ws : List ℕ} {first last : ℕ} (d : SpanOfDay n T ws first last) {rows : List ℕ} (e : rows ≡ spanRows n ws first last) {s : ℕ} (b : Unites rows s) where
+-- ---- the rows of a day are symmetric, and so the highest core by in-degrees is that by degrees
+
+module _ {n T : ℕ} {ws : List ℕ} {first last : ℕ} (d : SpanOfDay n T ws first last) {rows : List ℕ} (e : rows ≡ spanRows n ws first last) where
   few : n ≤ capacity
   few = limits-of (d .lent .limits) .few
 
@@ -60,11 +65,18 @@ module _ {n T : ℕ} {ws : List ℕ} {first last : ℕ} (d : SpanOfDay n T ws fi
       let t = of-span n ws first last u v (rw (row u l) at i) .1 in
       rw (row v m) (in-span n ws first last v u l (λ k p q. d .lent .day .tick k (omega (arith, d .inside)) .symmetric u v l m (t k p q)))
 
+  -- so the rows are symmetric, among the badges of the day and of each set of them
+  pub rows-symmetric : (base : ℕ) → Sub base (full n) → Symmetric (graph rows) base
+  rows-symmetric base h = record { back = λ u v i j k. back u v (of-full n u (h .at u i)) (of-full n v (h .at v j)) k }
+
+-- ---- the badges that are in some row
+
+module _ {n T : ℕ} {ws : List ℕ} {first last : ℕ} (d : SpanOfDay n T ws first last) {rows : List ℕ} (e : rows ≡ spanRows n ws first last) {s : ℕ} (b : Unites rows s) where
   -- they are badges of the day
-  within : Sub s (full n)
+  pub within : Sub s (full n)
   within = record {
     at = λ v i. let x = b .of v i in in-full n v (by-cases (decLt (x .0) n)
-        (λ l. of-span n ws first last (x .0) v (rw (row (x .0) l) at (x .1)) .0)
+        (λ l. of-span n ws first last (x .0) v (rw (row d e (x .0) l) at (x .1)) .0)
         (λ l. absurd (not-in-none v (rw (ap (λ (r : List ℕ). graph r (x .0)) e ∙ span-row-none n ws first last (x .0) (omega arith)) at (x .1)))));
   }
 
@@ -81,7 +93,7 @@ module _ {n T : ℕ} {ws : List ℕ} {first last : ℕ} (d : SpanOfDay n T ws fi
           let p : 1 ≤ size (intersection (graph rows v) (core (graph rows) (full n) j)) = le-trans l (core-cohesive (graph rows) (full n) j .each v i) in
           let x = some (intersection (graph rows v) (core (graph rows) (full n) j)) (λ z. omega (arith, ap size z, size-none)) in
           let u = of-full n (x .0) (core-sub (graph rows) (full n) j .at (x .0) (of-intersection-right (graph rows v) (core (graph rows) (full n) j) (x .0) (x .1))) in
-          b .has (x .0) v (back v (x .0) m u (of-intersection-left (graph rows v) (core (graph rows) (full n) j) (x .0) (x .1)))
+          b .has (x .0) v (back d e v (x .0) m u (of-intersection-left (graph rows v) (core (graph rows) (full n) j) (x .0) (x .1)))
 
 -- The loop that unites rows, at row u: the set has every badge that is in a row before it, and no other.
 pub record Uniting (rows : List ℕ) (u s : ℕ) : Type 0 where

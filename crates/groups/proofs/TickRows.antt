@@ -10,14 +10,14 @@ use native.Mathlib.Omega.{arith}
 use lib.ListN.{length, getD, take, drop, length-take, List·getD-eq-default}
 use Rattle.sets.specs.Sets.{In, full, intersection}
 use Rattle.sets.specs.Members.{capacity}
-use Rattle.sets.specs.Tables.{tabulate}
+use Rattle.sets.specs.Tables.{tabulate, piecewise}
 use Rattle.sets.proofs.Sets.{in-intersection, of-intersection-left, of-intersection-right, in-lt, in-full, of-full, ext}
 use Rattle.sets.proofs.Tables.{tabulate-same, piecewise-in, piecewise-out}
-use Rattle.days.specs.Days.{neighbours, IsDay}
+use Rattle.days.specs.Days.{neighbours, tickRows, IsDay}
 use Rattle.days.proofs.Days.{neighbours-part}
 use Rattle.spans.specs.Spans.{spanNeighbours, spanRows}
 use Rattle.spans.proofs.SpanRows.{in-span, of-span, span-row, span-row-none}
-use Rattle.groups.specs.Steps.{tickOf, tickRows, narrowed}
+use Rattle.groups.specs.Steps.{tickOf}
 
 -- rows that are those of a span below n and empty from n up are the rows of the span
 rows-are : (n : ℕ) (ws : List ℕ) (first last : ℕ) (f : ℕ → ℕ) → ((u : ℕ) → u < n → f u ≡ spanNeighbours n ws first last u) → ((u : ℕ) → n ≤ u → f u ≡ 0)
@@ -66,6 +66,10 @@ longer n ws first last u h = ext _ _ there back
     back v i =
         let s = of-span n ws first (suc last) u v i in
         in-intersection _ _ v (in-span n ws first last u v (s .0) (λ t p q. s .1 t p (omega arith))) (s .1 (suc last) (omega arith) (le-refl _))
+
+-- rows of which those of the tick's badges have only the neighbours of the tick
+unfoldable pub narrowed : List ℕ → List ℕ → List ℕ
+narrowed rows tick = tabulate capacity (piecewise (full (length tick)) (λ u. intersection (getD rows u 0) (getD tick u 0)) (λ u. getD rows u 0))
 
 -- narrowed by the next tick, the rows of a span are those of the span that is longer by this tick
 pub narrow-span : (n : ℕ) (ws : List ℕ) (first last : ℕ) → n ≤ capacity → first ≤ last → length (tickOf n ws (suc last)) ≡ n

@@ -1,10 +1,8 @@
 -- What the functions that score the runs of a day and encode its plan promise.
 use mathlib.Core.List.{List}
 use mathlib.Core.Path.{_≡_}
-use Prim.Native.Nat.{ℕ, zero, suc, _+_, _*_, _≤_, _<_, min}
+use Prim.Native.Nat.{ℕ, _+_, _*_, _≤_, _<_}
 use lib.ListN.{length, getD, take}
-use Rattle.sets.specs.Sets.{full}
-use Rattle.sets.specs.Members.{capacity}
 use Rattle.records.specs.Limits.{maxTicks}
 use Rattle.days.specs.Days.{LentDay}
 use Rattle.cuts.specs.Cuttings.{Cutting}
@@ -30,14 +28,10 @@ pub record Scores (n T : ℕ) (ws : List ℕ) (query k : ℕ) (scores : List ℕ
   pub size : length scores ≡ maxTicks * maxTicks
   pub score : (first last : ℕ) → first < k → first ≤ last → last < T → tableScore scores first last ≡ scoreOn n ws query first last
 
--- the members shown of a part: all n badges at order 0, and else those of the core
-unfoldable pub shownMembers : ℕ → ℕ → ℕ → ℕ
-shownMembers zero core n = full (min n capacity)
-shownMembers (suc k) core n = core
-
--- what a plan is encoded from: a lent day, a query of its badges, and the ends of a cutting into h runs
-pub record PlanParts (n T : ℕ) (ws : List ℕ) (query h : ℕ) (ends buffer : List ℕ) : Type 0 where
+-- what a plan is encoded from: a lent day, the scores of its runs for a query, and the ends of a cutting into h runs
+pub record PlanParts (n T : ℕ) (ws : List ℕ) (query h : ℕ) (ends scores buffer : List ℕ) : Type 0 where
   pub lent : LentDay n T ws
+  pub scored : Scores n T ws query T scores
   pub cutting : Cutting T h (take h ends)
   pub ends-size : length ends ≡ maxTicks
   pub room : 19 + 13 * h ≤ length buffer

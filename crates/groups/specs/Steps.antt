@@ -3,26 +3,29 @@ use mathlib.Core.Path.{_≡_}
 use mathlib.Core.List.{List}
 use Prim.Native.Nat.{ℕ, suc, _*_, _≤_}
 use lib.ListN.{length, getD, take, drop}
-use Rattle.sets.specs.Sets.{In, intersection, full}
+use Rattle.sets.specs.Sets.{In}
 use Rattle.sets.specs.Members.{capacity}
-use Rattle.sets.specs.Tables.{tabulate, piecewise}
 use Rattle.spans.specs.Spans.{spanRows}
 
 -- the words of tick t
 unfoldable pub tickOf : ℕ → List ℕ → ℕ → List ℕ
 tickOf n ws t = take n (drop (t * n) ws)
 
--- the rows of one tick; and rows of which those of the tick's badges have only the neighbours of the tick
-unfoldable pub tickRows : List ℕ → List ℕ
-tickRows tick = tabulate capacity (λ u. getD tick u 0)
+-- Rows are those of a span of some day's words, and the words of a tick are those of the tick after it: what a narrowing step is given.
+pub record NextTick (rows tick : List ℕ) : Type 0 where
+  pub badges : ℕ
+  pub words : List ℕ
+  pub first : ℕ
+  pub last : ℕ
+  pub few : badges ≤ capacity
+  pub rising : first ≤ last
+  pub span : rows ≡ spanRows badges words first last
+  pub next : tick ≡ tickOf badges words (suc last)
+  pub whole : length tick ≡ badges
 
-unfoldable pub narrowed : List ℕ → List ℕ → List ℕ
-narrowed rows tick = tabulate capacity (piecewise (full (length tick)) (λ u. intersection (getD rows u 0) (getD tick u 0)) (λ u. getD rows u 0))
-
--- Of the rows of any span and the words of the tick after it, these are the rows of the span that is longer by this tick.
+-- What the step leaves: the rows of the span that is longer by this tick, whichever span the rows are of.
 pub record Narrows (rows tick longer : List ℕ) : Type 0 where
-  pub span : (n : ℕ) (ws : List ℕ) (first last : ℕ) → n ≤ capacity → first ≤ last → rows ≡ spanRows n ws first last → tick ≡ tickOf n ws (suc last)
-      → length tick ≡ n → longer ≡ spanRows n ws first (suc last)
+  pub span : (s : NextTick rows tick) → longer ≡ spanRows (s .badges) (s .words) (s .first) (suc (s .last))
 
 -- rows of a span that starts with tick first, to a tick that is not after tick last
 pub record RowsTo (n : ℕ) (ws : List ℕ) (first last : ℕ) (rows : List ℕ) (reached : ℕ) : Type 0 where

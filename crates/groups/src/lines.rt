@@ -7,9 +7,8 @@ ghost use Rattle.records.specs.Limits.{maxTicks};
 ghost use Rattle.days.specs.Days.{LentDay};
 ghost use Rattle.groups.specs.Lines.{ScoresBefore, LineFound};
 use crate::day::Size;
-use crate::day::Span;
+use crate::rows::first_rows;
 use crate::rows::narrow_to;
-use crate::rows::span_rows;
 use crate::rows::united;
 use cores::highest_core;
 use sets::BadgeSet;
@@ -29,7 +28,7 @@ pub(crate) fn find_line(
     requires { ⌜ LentDay (day .badges) (day .ticks) (now words) × (first < day .ticks) × ScoresBefore (day .badges) (day .ticks) (now words) (members query) first (now orders) × (length (now cores) ≡ maxTicks) ⌝ }
     ensures { λ _. ⌜ LineFound (day .badges) (day .ticks) (now (words .entry)) (members query) first (now (orders .entry)) (now (orders .exit)) (now (cores .exit)) ⌝ }
 {
-    let mut rows = span_rows(words, day, Span { first, last: first });
+    let mut rows = first_rows(words, day, first);
     let mut reached = first;
     let mut upper: u8 = 64;
     for last in first..day.ticks {

@@ -8,10 +8,10 @@ ghost use Rattle.sets.specs.Members.{members};
 ghost use Rattle.days.specs.Days.{LentDay};
 ghost use Rattle.log.specs.Buffers.{deliver};
 ghost use Rattle.spans.specs.Spans.{SpanOfDay};
-ghost use Rattle.spans.specs.Plans.{partOn};
+ghost use Rattle.spans.specs.Plans.{scoreOn, membersOn, partOn};
 ghost use Rattle.groups.specs.Refusals.{writtenOutcome};
 ghost use Rattle.groups.specs.Appending.{AppendsCores};
-ghost use Rattle.groups.specs.Scoring.{shownMembers, PlanParts, EncodesPlan};
+ghost use Rattle.groups.specs.Scoring.{PlanParts, EncodesPlan};
 ghost use Rattle.groups.specs.Calls.{planJudged, planOf};
 ghost use Rattle.groups.specs.ShiftPlans.{PlanShown};
 use crate::answer::Written;
@@ -32,49 +32,54 @@ use log::put_record;
 use sets::BadgeSet;
 use sets::widen;
 
-// The members shown of a part: those of the core of its score, and at score 0 all n badges.
-fn members_shown(order: u8, core: BadgeSet, n: usize) -> BadgeSet
-    ensures { λ r. ⌜ members r ≡ shownMembers order (members core) n ⌝ }
+// The members shown of a part of a score: those of the core of this order, which contains the query, and at score 0 all n badges. The order is
+// known, so no other is tried.
+fn part_members(words: &[u64], day: Size, query: BadgeSet, span: Span, score: u8) -> BadgeSet
+    requires { ⌜ SpanOfDay (day .badges) (day .ticks) (now words) (span .first) (span .last) × (score ≡ scoreOn (day .badges) (now words) (members query) (span .first) (span .last)) ⌝ }
+    ensures { λ r. ⌜ members r ≡ membersOn (day .badges) (now (words .entry)) score (span .first) (span .last) ⌝ }
 {
-    if order == 0 {
-        return BadgeSet::full(n);
+    let all = BadgeSet::full(day.badges);
+    if score == 0 {
+        return all;
     }
-    core
+    let rows = span_rows(words, day, span);
+    let core = cores::highest(&rows, all, query, score - 1, score);
+    core.members
 }
 
-// Appends the part of a run, and answers how many there are then.
+// Appends the part of a run, whose score is known, and answers how many there are then.
 fn append_part(
     words: &[u64],
     day: Size,
     query: BadgeSet,
     span: Span,
+    score: u8,
     buffer: &mut [u8],
     count: usize,
 ) -> usize
-    requires { ⌜ SpanOfDay (day .badges) (day .ticks) (now words) (span .first) (span .last) × (13 + 13 * count + 13 ≤ length (now buffer)) ⌝ }
+    requires { ⌜ SpanOfDay (day .badges) (day .ticks) (now words) (span .first) (span .last) × (score ≡ scoreOn (day .badges) (now words) (members query) (span .first) (span .last)) × (13 + 13 * count + 13 ≤ length (now buffer)) ⌝ }
     ensures { λ r. ⌜ AppendsCores (ascii "PT") 13 (partOn (day .badges) (now (words .entry)) (members query) (span .first) (span .last) ∷ []) count r (now (buffer .entry)) (now (buffer .exit)) ⌝ }
 {
-    let rows = span_rows(words, day, span);
-    let core = cores::highest_core(rows, BadgeSet::full(day.badges), query, 0, 64);
     let part = Shown {
-        order: core.order,
+        order: score,
         first: span.first as u8,
         last: span.last as u8,
-        members: members_shown(core.order, core.members, day.badges),
+        members: part_members(words, day, query, span, score),
     };
     append_record(buffer, 13, count, b'P', b'T', part)
 }
 
-// Encodes the plan of a day, cut at the given ends, in a buffer that holds it.
+// Encodes the plan of a day, cut at the given ends, in a buffer that holds it. The scores are those of all runs.
 fn encode_plan(
     words: &[u64],
     day: Size,
     query: BadgeSet,
     parts: usize,
     ends: &[u8; 96],
+    scores: &[u8; 9216],
     buffer: &mut [u8],
 )
-    requires { ⌜ PlanParts (day .badges) (day .ticks) (now words) (members query) parts (now ends) (now buffer) ⌝ }
+    requires { ⌜ PlanParts (day .badges) (day .ticks) (now words) (members query) parts (now ends) (now scores) (now buffer) ⌝ }
     ensures { λ _. ⌜ EncodesPlan (day .badges) (day .ticks) (now (words .entry)) (members query) parts (now (ends .entry)) (now (buffer .exit)) ⌝ }
 {
     let header = Shown {
@@ -88,7 +93,16 @@ fn encode_plan(
     let mut count: usize = 0;
     for i in 0..parts {
         let last = widen(ends[i]);
-        let appended = append_part(words, day, query, Span { first, last }, buffer, count);
+        let score = scores[first * 96 + last];
+        let appended = append_part(
+            words,
+            day,
+            query,
+            Span { first, last },
+            score,
+            buffer,
+            count,
+        );
         count = appended;
         first = last + 1;
     }
@@ -128,7 +142,7 @@ fn plan_day(
     fill_scores(words, day, query, &mut scores);
     let ends = cuts::best_ends(&scores, ticks, parts);
     let mut bytes = [0u8; 1267];
-    encode_plan(words, day, query, parts, &ends, &mut bytes);
+    encode_plan(words, day, query, parts, &ends, &scores, &mut bytes);
     delivered(log::deliver(&bytes[..19 + 13 * parts], buffer))
 }
 

@@ -8,12 +8,13 @@ ghost use Rattle.sets.specs.Bools.{_and_};
 ghost use Rattle.sets.specs.Ascii.{ascii};
 ghost use Rattle.sets.specs.Members.{members};
 ghost use Rattle.sets.specs.Tables.{keepIf};
+ghost use Rattle.records.specs.Limits.{maxTicks};
 ghost use Rattle.days.specs.Days.{LentDay};
 ghost use Rattle.log.specs.Buffers.{deliver};
 ghost use Rattle.spans.specs.KeptGroups.{kept};
-ghost use Rattle.spans.specs.Encoding.{maxReportBytes};
+ghost use Rattle.spans.specs.Encoding.{mostBytes};
 ghost use Rattle.groups.specs.Refusals.{writtenOutcome};
-ghost use Rattle.groups.specs.Appending.{coreOf, AppendsCores, lineList, LineRoom, EncodesReport};
+ghost use Rattle.groups.specs.Appending.{coreOf, AppendsCores, lineList, LineRoom, EncodesReport, DeliversReport};
 ghost use Rattle.groups.specs.Calls.{reportJudged, reportOf};
 ghost use Rattle.groups.specs.GroupReports.{Reported};
 use crate::answer::Written;
@@ -82,10 +83,10 @@ fn append_line(
     so_far
 }
 
-// Encodes the report of a day in a buffer that holds any report, and answers how many groups it keeps.
+// Encodes the report of a day in a buffer that holds any report of so many ticks, and answers how many groups it keeps.
 fn encode_report(words: &[u64], day: Size, least: Thresholds, buffer: &mut [u8]) -> usize
-    requires { ⌜ LentDay (day .badges) (day .ticks) (now words) × (maxReportBytes ≤ length (now buffer)) ⌝ }
-    ensures { λ r. ⌜ EncodesReport (day .badges) (day .ticks) (now (words .entry)) least r (now (buffer .exit)) ⌝ }
+    requires { ⌜ LentDay (day .badges) (day .ticks) (now words) × (mostBytes (day .ticks) ≤ length (now buffer)) ⌝ }
+    ensures { λ r. ⌜ EncodesReport (day .badges) (day .ticks) (now (words .entry)) least r (now (buffer .entry)) (now (buffer .exit)) ⌝ }
 {
     let header = [b'R', b'H', day.badges as u8, day.ticks as u8];
     put(buffer, 0, &header);
@@ -114,6 +115,30 @@ fn encode_report(words: &[u64], day: Size, least: Thresholds, buffer: &mut [u8])
     count
 }
 
+// The bytes of a report with a group on each span of so many ticks.
+fn most_bytes(ticks: usize) -> usize
+    requires { ⌜ ticks ≤ maxTicks ⌝ }
+    ensures { λ r. ⌜ r ≡ mostBytes ticks ⌝ }
+{
+    10 + 13 * (ticks * (ticks + 1) / 2)
+}
+
+// Puts a report into the buffer that is lent: judged by 9. Where the buffer holds any report of so many ticks, 9 cannot come, and the report is made in
+// it, so that no memory has to be cleared; else it is made in memory of its own, and measured.
+fn report_groups(words: &[u64], day: Size, least: Thresholds, buffer: &mut [u8]) -> Written
+    requires { ⌜ LentDay (day .badges) (day .ticks) (now words) ⌝ }
+    ensures { λ r. ⌜ DeliversReport (day .badges) (day .ticks) (now (words .entry)) least (writtenOutcome r) (now (buffer .entry)) (now (buffer .exit)) ⌝ }
+{
+    let most = most_bytes(day.ticks);
+    if most <= buffer.len() {
+        let count = encode_report(words, day, least, buffer);
+        return Written::Bytes(10 + 13 * count);
+    }
+    let mut bytes = [0u8; 60538];
+    let count = encode_report(words, day, least, &mut bytes);
+    delivered(log::deliver(&bytes[..10 + 13 * count], buffer))
+}
+
 // Puts the report of a day whose words have passed into the buffer that is lent: judged by 17 and 9.
 fn report_day(
     words: &[u64],
@@ -129,14 +154,12 @@ fn report_day(
     if !least.in_range() {
         return Written::Refused(Refusal::ThresholdOutOfRange);
     }
-    let mut bytes = [0u8; 60538];
-    let count = encode_report(words, Size { badges, ticks }, least, &mut bytes);
-    delivered(log::deliver(&bytes[..10 + 13 * count], buffer))
+    report_groups(words, Size { badges, ticks }, least, buffer)
 }
 
 // Puts the report of a day's groups that meet the thresholds into the buffer that is lent, and answers the number of bytes. Refused by 10, 8, 11,
-// 17 and 9, in that order; a refused call changes no byte, and bytes after the answer are never touched. The report is made once, in memory of
-// its own, and measured.
+// 17 and 9, in that order; a refused call changes no byte, and bytes after the answer are never touched. The report is made once, and
+// measured before a buffer that may be too short for it is touched.
 pub fn report(
     words: &[u64],
     badges: usize,

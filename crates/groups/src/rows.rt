@@ -1,37 +1,19 @@
 // The rows of a span: for each badge, those in contact with it in every tick.
 ghost use mathlib.Core.Path.{_≡_};
-ghost use Prim.Native.Nat.{_≤_, min};
-ghost use lib.ListN.{length};
-ghost use Rattle.sets.specs.Members.{capacity, members};
+ghost use Rattle.sets.specs.Members.{members};
 ghost use Rattle.spans.specs.Spans.{spanRows, SpanOfDay};
-ghost use Rattle.groups.specs.Steps.{tickRows, narrowed, Narrows, RowsTo, Unites};
+ghost use Rattle.groups.specs.Steps.{NextTick, Narrows, RowsTo, Unites};
 use crate::day::Size;
 use crate::day::Span;
+use days::tick_rows;
 use sets::BadgeSet;
 
-// The smaller of a tick's number of words and 64.
-fn row_count(tick: &[u64]) -> usize
-    ensures { λ r. ⌜ r ≡ min 64 (length (now (tick .entry))) ⌝ }
-{
-    if tick.len() < 64 { tick.len() } else { 64 }
-}
-
-// The rows of one tick.
-pub(crate) fn tick_rows(tick: &[u64]) -> [u64; 64]
-    ensures { λ r. ⌜ r ≡ tickRows (now (tick .entry)) ⌝ }
-{
-    let mut out = [0u64; 64];
-    for u in 0..row_count(tick) {
-        out[u] = tick[u];
-    }
-    out
-}
-
-// Narrows rows by one tick more: of the neighbours of each badge that the tick has, those stay that are in contact with it in that tick, too.
+// Narrows the rows of a span by the tick after it: of the neighbours of each badge that the tick has, those stay that are in contact with it in that
+// tick, too. The step gets these rows and this tick's words alone. The rows that it leaves are those of the longer span, whichever span of whichever
+// words the rows are of; a caller has to show that there is one.
 pub(crate) fn narrow(rows: &mut [u64], tick: &[u64])
-    requires { ⌜ (length (now rows) ≡ capacity) × (length (now tick) ≤ capacity) ⌝ }
-    ensures rows { λ _. ⌜ now (rows .exit) ≡ narrowed (now (rows .entry)) (now (tick .entry)) ⌝ }
-    ensures span { λ _. ⌜ Narrows (now (rows .entry)) (now (tick .entry)) (now (rows .exit)) ⌝ }
+    requires { ⌜ NextTick (now rows) (now tick) ⌝ }
+    ensures { λ _. ⌜ Narrows (now (rows .entry)) (now (tick .entry)) (now (rows .exit)) ⌝ }
 {
     for u in 0..tick.len() {
         rows[u] = rows[u] & tick[u];
@@ -69,14 +51,22 @@ pub(crate) fn united(rows: &[u64]) -> BadgeSet
     BadgeSet::from_word(all)
 }
 
-// The rows of a span.
+// The rows of the span of one tick.
+pub(crate) fn first_rows(words: &[u64], day: Size, first: usize) -> [u64; 64]
+    requires { ⌜ SpanOfDay (day .badges) (day .ticks) (now words) first first ⌝ }
+    ensures { λ r. ⌜ r ≡ spanRows (day .badges) (now (words .entry)) first first ⌝ }
+{
+    let n = day.badges;
+    let at = first * n;
+    tick_rows(&words[at..at + n])
+}
+
+// The rows of a span: those of its first tick, narrowed by the others.
 pub(crate) fn span_rows(words: &[u64], day: Size, span: Span) -> [u64; 64]
     requires { ⌜ SpanOfDay (day .badges) (day .ticks) (now words) (span .first) (span .last) ⌝ }
     ensures { λ r. ⌜ r ≡ spanRows (day .badges) (now (words .entry)) (span .first) (span .last) ⌝ }
 {
-    let n = day.badges;
-    let at = span.first * n;
-    let mut rows = tick_rows(&words[at..at + n]);
+    let mut rows = first_rows(words, day, span.first);
     narrow_to(&mut rows, words, day, span.first, span.first, span.last);
     rows
 }

@@ -4,7 +4,8 @@ mod answers;
 
 ghost use mathlib.Core.Path.{_≡_};
 ghost use lib.ListN.{getD};
-ghost use Rattle.cores.specs.Rows.{coreNumbers, IsPeeled, IsHighest};
+ghost use Rattle.cores.specs.Rows.{graph, coreNumbers, IsPeeled, IsHighest};
+ghost use Rattle.cores.specs.Columns.{transposed};
 ghost use Rattle.probes.specs.Listings.{listedOf, linesOf};
 use answers::listing_answer;
 use sets::BadgeSet;
@@ -83,7 +84,7 @@ pub extern "C" fn probe_highest_core(
     out: &mut [u64; 64],
     answer: &mut [u64; 2],
 )
-    ensures { λ _. ⌜ IsHighest (now (rows .entry)) base query above most (getD (now (answer .exit)) 0 0) (getD (now (answer .exit)) 1 0) (now (out .exit)) ⌝ }
+    ensures { λ _. ⌜ IsHighest (transposed (graph (now (rows .entry))) base) (now (rows .entry)) base query above most (getD (now (answer .exit)) 0 0) (getD (now (answer .exit)) 1 0) (now (out .exit)) ⌝ }
 {
     let core = cores::highest_core(
         *rows,

@@ -8,12 +8,13 @@ use native.Mathlib.Nat.{le-refl, mod-lt, zero-lt-suc, pow-suc, le-of-suc-le-suc,
 use native.Mathlib.Decide.{ℕ-discrete}
 use native.Mathlib.Omega.{arith}
 use lib.Arith.{bin-ind, digits-div, digits-mod, lt-one}
+use lib.Bits.{bitXor}
 use borrow.Author.Tests.{eqb-true, eqb-false, eq-eqb, lt-ltb, le-ltb}
-use Rattle.sets.specs.Sets.{bit, In, has, Sub, isSub, intersection, union, difference, only, digit, setOf, filterIn, filter, full}
+use Rattle.sets.specs.Sets.{bit, In, has, Sub, isSub, intersection, union, difference, symmetricDifference, only, digit, setOf, filterIn, filter, full}
 use Rattle.sets.specs.Members.{capacity, insert}
 use Rattle.sets.specs.Bools.{_and_, _or_}
 use Rattle.sets.proofs.Bools.{clash, same-test, and-in, and-left, and-right, or-left, or-right, or-of}
-use Rattle.sets.proofs.Bits.{bit-lt, bit-zero, bit-suc, bit-none, bit-and, bit-or, bit-sub}
+use Rattle.sets.proofs.Bits.{bit-lt, bit-zero, bit-suc, bit-none, bit-and, bit-or, bit-sub, bit-xor}
 
 -- the test for membership passes exactly when the badge is a member
 pub in-test : (s u : ℕ) → has s u ≡ true → In s u
@@ -76,6 +77,23 @@ in-difference s t u i f = omega (arith, bit-sub u s t, bit-lt t u)
 pub of-difference : (s t u : ℕ) → In (difference s t) u → In s u × (In t u → ⊥)
 unfolding difference
 of-difference s t u i = (omega (arith, bit-sub u s t, bit-lt s u), λ j. omega (arith, bit-sub u s t, bit-lt s u))
+
+-- the members of a symmetric difference are the badges that are in one of the sets and not in the other
+pub in-symmetric-left : (s t u : ℕ) → In s u → (In t u → ⊥) → In (symmetricDifference s t) u
+unfolding symmetricDifference
+in-symmetric-left s t u i f = omega (arith, bit-xor u s t, bit-lt t u)
+
+pub in-symmetric-right : (s t u : ℕ) → In t u → (In s u → ⊥) → In (symmetricDifference s t) u
+unfolding symmetricDifference
+in-symmetric-right s t u i f = omega (arith, bit-xor u s t, bit-lt s u)
+
+pub of-symmetric : (s t u : ℕ) → In (symmetricDifference s t) u → (In s u × (In t u → ⊥)) ⊎ (In t u × (In s u → ⊥))
+unfolding symmetricDifference
+of-symmetric s t u i = go (ℕ-discrete (bit s u) 1)
+  where
+    go : Dec (bit s u ≡ 1) → (In s u × (In t u → ⊥)) ⊎ (In t u × (In s u → ⊥))
+    go (yes j) = inl (j, λ k. omega (arith, bit-xor u s t))
+    go (no f) = inr (omega (arith, bit-xor u s t, bit-lt s u, bit-lt t u), f)
 
 -- the set of one badge has that member and no other
 half-only : (u : ℕ) → only (suc u) / 2 ≡ only u
@@ -239,6 +257,13 @@ sub-antisym = bin-ind (λ (s : ℕ). (t : ℕ) → Sub s t → Sub t s → s ≡
 
 pub ext : (s t : ℕ) → ((u : ℕ) → In s u → In t u) → ((u : ℕ) → In t u → In s u) → s ≡ t
 ext s t f g = sub-antisym s t (record { at = f }) (record { at = g })
+
+-- the symmetric difference with the same set twice changes nothing
+pub symmetric-twice : (s t : ℕ) → symmetricDifference (symmetricDifference s t) t ≡ s
+unfolding symmetricDifference
+symmetric-twice s t = ext _ _
+    (λ u i. omega (arith, bit-xor u (bitXor s t) t, bit-xor u s t, bit-lt s u, bit-lt t u))
+    (λ u i. omega (arith, bit-xor u (bitXor s t) t, bit-xor u s t, bit-lt t u))
 
 -- the numbers below n + 1 that pass a test are those below n, with n where it passes
 module _ (n : ℕ) (p : ℕ → Bool) where

@@ -4,7 +4,7 @@ mod widening;
 ghost use mathlib.Core.Path.{_≡_};
 ghost use Prim.Native.Nat.{_-_, min};
 ghost use lib.Dec.{eqb};
-ghost use Rattle.sets.specs.Sets.{has, isSub, intersection, union, difference, only, full, size, smallest};
+ghost use Rattle.sets.specs.Sets.{has, isSub, intersection, union, difference, symmetricDifference, only, full, size, smallest};
 ghost use Rattle.sets.specs.Members.{members, capacity, insert};
 pub use widening::widen;
 
@@ -99,6 +99,15 @@ impl BadgeSet {
     {
         BadgeSet {
             bits: self.bits - (self.bits & other.bits),
+        }
+    }
+
+    // The badges in one of the sets alone.
+    pub fn symmetric_difference(self, other: BadgeSet) -> BadgeSet
+        ensures { λ r. ⌜ members r ≡ symmetricDifference (members self) (members other) ⌝ }
+    {
+        BadgeSet {
+            bits: self.bits ^ other.bits,
         }
     }
 

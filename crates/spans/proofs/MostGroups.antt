@@ -17,7 +17,7 @@ use Rattle.records.specs.Records.{encode}
 use Rattle.records.proofs.Records.{length-encode}
 use Rattle.spans.specs.SpanCores.{SpanCore}
 use Rattle.spans.specs.Reports.{groupsOn, groupsFrom, groupsOf}
-use Rattle.spans.specs.Encoding.{maxGroups, maxReportBytes, encodeCores, reportBytes}
+use Rattle.spans.specs.Encoding.{spanCount, maxGroups, maxReportBytes, encodeCores, reportBytes}
 use Rattle.spans.proofs.Maximal.{groups-on}
 use Rattle.spans.proofs.Encoding.{encode-cores-length}
 
@@ -26,6 +26,11 @@ pub report-length : (n T : ℕ) (groups : List SpanCore) → length (reportBytes
 unfolding reportBytes
 report-length n T groups =
     omega (arith, length-append (encodeCores (ascii "GR") groups) (encode (End (length groups))), encode-cores-length (ascii "GR") refl groups, length-encode (End (length groups)))
+
+-- no day has more spans than one of 96 ticks
+pub spans-few : {T : ℕ} → T ≤ maxTicks → spanCount T ≤ maxGroups
+unfolding spanCount
+spans-few {T} s = let k : suc T ≤ suc maxTicks = omega arith in omega (arith, mul-le-mul s k)
 
 module _ (n T : ℕ) (ws : List ℕ) where
   -- at most one for each last tick from the first tick on
@@ -45,12 +50,12 @@ module _ (n T : ℕ) (ws : List ℕ) where
           let single : length (groupsOn n T ws first last) ≤ 1 = rw (groups-on n T ws first last (leb-true first last e) m) (keep-le _ _) in
           omega (arith, keep-le (leb first last) (groupsOn n T ws first last))
 
-  -- so many of the spans that start before a tick, and one for each last tick from it on, are no more than 4,656
-  pub groups-before : (first : ℕ) → first ≤ T → T ≤ maxTicks → length (concatBelow first (groupsFrom n T ws)) + (T - first) ≤ maxGroups
-  groups-before first h s =
-      let k : suc T ≤ suc maxTicks = omega arith in
+  -- so many of the spans that start before a tick, and one for each last tick from it on, are no more than there are spans
+  pub groups-before : (first : ℕ) → first ≤ T → length (concatBelow first (groupsFrom n T ws)) + (T - first) ≤ spanCount T
+  unfolding spanCount
+  groups-before first h =
       let double : (T - first) * 2 ≤ (T - first) * suc (T - first) = double-le (T - first) in
-      omega (arith, concat-triangle T (groupsFrom n T ws) first h (λ i l. line-few i), mul-le-mul s k)
+      omega (arith, concat-triangle T (groupsFrom n T ws) first h (λ i l. line-few i))
     where
       double-le : (d : ℕ) → d * 2 ≤ d * suc d
       double-le zero = omega arith
@@ -58,7 +63,7 @@ module _ (n T : ℕ) (ws : List ℕ) where
 
   pub groups-few : T ≤ maxTicks → length (groupsOf n T ws) ≤ maxGroups
   unfolding groupsOf
-  groups-few s = omega (arith, groups-before T (le-refl T) s)
+  groups-few s = omega (arith, groups-before T (le-refl T), spans-few s)
 
   pub report-most : T ≤ maxTicks → length (reportBytes n T (groupsOf n T ws)) ≤ maxReportBytes
   report-most s = omega (arith, report-length n T (groupsOf n T ws), groups-few s)

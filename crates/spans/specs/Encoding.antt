@@ -1,6 +1,6 @@
 -- Reports and plans in bytes, and the records that such bytes say.
 use mathlib.Core.List.{List, [], _∷_, _++_}
-use Prim.Native.Nat.{ℕ, zero, suc, _-_}
+use Prim.Native.Nat.{ℕ, zero, suc, _+_, _-_, _*_, _/_}
 use lib.ListN.{length, getD, take, drop}
 use Rattle.sets.specs.Ascii.{ascii}
 use Rattle.sets.specs.Bytes.{littleEndian, fromLittleEndian}
@@ -8,7 +8,14 @@ use Rattle.records.specs.declared.record.Record.the-variants.{End}
 use Rattle.records.specs.Records.{encode}
 use Rattle.spans.specs.SpanCores.{SpanCore}
 
--- the most groups of a day, one for each span of 96 ticks, and the bytes of its report
+-- the spans of T ticks: a day has at most one group on each; and the bytes of a report with as many
+unfoldable pub spanCount : ℕ → ℕ
+spanCount T = T * suc T / 2
+
+abbrev pub mostBytes : ℕ → ℕ
+mostBytes T = 10 + 13 * spanCount T
+
+-- the most groups of any day, one for each span of 96 ticks, and the bytes of its report
 abbrev pub maxGroups : ℕ
 maxGroups = 4656
 

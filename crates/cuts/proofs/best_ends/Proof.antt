@@ -12,11 +12,11 @@ use Rattle.cuts.proofs.best_ends.Statement.{statement}
 use Rattle.cuts.proofs.best_ends.Tie as tie
 
 abbrev Inv-loop : tie.InvT-loop
-Inv-loop scores ticks parts sums₀ c₀ sums c =
+Inv-loop scores ticks parts maxima sums₀ c₀ sums c =
     (1 ≤ parts) × (parts ≤ ticks) × (ticks ≤ 96) × (c + 1 ≤ parts) × Filled scores ticks parts (c + 1) sums
 
 abbrev μ-loop : tie.MeasureT-loop
-μ-loop scores ticks parts sums₀ c₀ sums c = parts - c
+μ-loop scores ticks parts maxima sums₀ c₀ sums c = parts - c
 
 returns : tie.Need-returns Inv-loop μ-loop
 returns c =
@@ -24,6 +24,9 @@ returns c =
       | inl h ↦ omega arith
       | inr k ↦ elim k [ inl h ↦ omega (arith, ltb-true) | inr h ↦ omega (arith, ltb-true) ]
     ]))
+
+row-maxima-requires : tie.Need-row-maxima-requires Inv-loop μ-loop
+row-maxima-requires c κs = omega (arith, ltb-false)
 
 fill-first-requires : tie.Need-fill-first-requires Inv-loop μ-loop
 fill-first-requires c κs = omega (arith, ltb-false)
@@ -63,6 +66,7 @@ best-ends-spec =
     Inv-loop
     μ-loop
     returns
+    row-maxima-requires
     fill-first-requires
     loop-holds
     add-loop

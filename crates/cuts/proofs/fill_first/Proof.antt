@@ -1,4 +1,4 @@
--- `fill_first` meets its contract: before column t of the loop row 0 is filled below column t, as far as it is reached.
+-- `fill_first` meets its contract: before column t of the loop row 0 is filled from column parts - 1 to column t - 1.
 use Prim.Native.Nat.{_-_, _≤_}
 use native.Mathlib.Omega.{arith}
 use borrow.Author.Needs.{needs}
@@ -7,7 +7,7 @@ use Rattle.cuts.proofs.fill_first.Statement.{statement}
 use Rattle.cuts.proofs.fill_first.Tie as tie
 
 abbrev Inv-loop : tie.InvT-loop
-Inv-loop scores sums₀ ticks parts last t₀ sums t = (t ≤ ticks) × PartlyFilled scores ticks parts 0 t sums
+Inv-loop scores sums₀ ticks parts last t₀ sums t = (t ≤ ticks) × PartlyFilled scores ticks parts 0 (parts - 1) t sums
 
 abbrev μ-loop : tie.MeasureT-loop
 μ-loop scores sums₀ ticks parts last t₀ sums t = ticks - t
@@ -19,7 +19,7 @@ sub-t : tie.Need-sub-t Inv-loop μ-loop
 sub-t c = search needs
 
 loop-holds : tie.Need-loop-holds Inv-loop μ-loop
-loop-holds c = (omega arith, partly-none (filled-none (c .pre .3)) (omega arith))
+loop-holds c = (omega arith, partly-none (filled-none (c .pre .3)))
 
 mul-single : tie.Need-mul-single Inv-loop μ-loop
 mul-single c = search needs
@@ -47,11 +47,13 @@ loop-less c = search needs
 
 loop-again : tie.Need-loop-again Inv-loop μ-loop
 loop-again c =
-    let l = c .before .before .before in
-    (omega arith, partly-more (l .loop .inv .1) _ _ (omega arith) (omega arith) (omega arith) (no-cut _ _ _ _ (c .single .ensures .0)) (omega (arith, c .single .ensures .1)))
+    let l = c .before .before .before .loop in (
+      omega arith,
+      partly-more (l .inv .1) (l .t) (l .t) _ (λ s l m d. (l, omega arith)) (omega arith) (omega arith) (omega arith) (no-cut _ _ _ _ (c .single .ensures .0)) (omega (arith, c .single .ensures .1)),
+    )
 
 returns : tie.Need-returns Inv-loop μ-loop
-returns c = partly-all (c .before .loop .inv .1) (omega arith) (omega arith)
+returns c = partly-all (c .before .loop .inv .1) (omega arith) (omega arith) (omega arith)
 
 pub fill-first-spec : {M : Type 1} → statement M
 fill-first-spec =

@@ -1,16 +1,17 @@
--- `greatest_sum` meets its contract: before end e of the loop, `greatest` is not below any sum at the ends t to e - 1, nor above the greatest of all.
+-- `greatest_sum` meets its contract: before end e of the loop, `greatest` is the greatest sum at the ends t to e - 1.
 use mathlib.Core.Logic.{inl, inr}
 use Prim.Native.Nat.{suc, _-_, _*_, _≤_}
 use native.Mathlib.Omega.{arith}
 use borrow.Author.Needs.{needs}
-use Rattle.cuts.specs.Steps.{runSum}
-use Rattle.cuts.proofs.Steps.{run-sum-in, small-in, Summed, summed-none, summed-take, summed-keep, summed-all}
+use Rattle.cuts.specs.Steps.{runSum, GreatestOf}
+use Rattle.cuts.proofs.Greatest.{greatest-none, greatest-next, greatest-all}
+use Rattle.cuts.proofs.Steps.{run-sum-in, small-in}
 use Rattle.cuts.proofs.greatest_sum.Statement.{statement}
 use Rattle.cuts.proofs.greatest_sum.Tie as tie
 
 abbrev Inv-loop : tie.InvT-loop
 Inv-loop scores sums c t stop row after greatest₀ e₀ greatest e =
-    (t ≤ e) × (e ≤ stop) × (greatest ≤ 255 * suc (suc c)) × Summed (runSum scores sums c t) t stop e greatest
+    (t ≤ e) × (e ≤ stop) × (greatest ≤ 255 * suc (suc c)) × GreatestOf (runSum scores sums c t) t e greatest
 
 abbrev μ-loop : tie.MeasureT-loop
 μ-loop scores sums c t stop row after greatest₀ e₀ greatest e = stop - e
@@ -25,7 +26,7 @@ add-after : tie.Need-add-after Inv-loop μ-loop
 add-after c = search needs
 
 loop-holds : tie.Need-loop-holds Inv-loop μ-loop
-loop-holds c = (omega arith, omega arith, omega arith, summed-none)
+loop-holds c = (omega arith, omega arith, omega arith, greatest-none)
 
 add-single : tie.Need-add-single Inv-loop μ-loop
 add-single c = search needs
@@ -64,12 +65,12 @@ loop-again c =
     let o = c .before .before .single .ensures in
     let a = small-in (l .before .before .pre .3) (i .0) (l .loop-test .taken) in
     elim (c .if1 .came) [
-      | inl h ↦ (omega arith, omega arith, omega arith, rw (h .1) (summed-take (i .3) (run-sum-in _ _ _ _ _ (o .0)) (i .0) (l .loop-test .taken) (omega arith)))
-      | inr h ↦ (omega arith, omega arith, omega arith, rw (h .1) (summed-keep (i .3) (run-sum-in _ _ _ _ _ (o .0)) (h .0 .left)))
+      | inl h ↦ (omega arith, omega arith, omega arith, greatest-next (i .3) (i .0) (run-sum-in _ _ _ _ _ (o .0)) (omega arith))
+      | inr h ↦ (omega arith, omega arith, omega arith, greatest-next (i .3) (i .0) (run-sum-in _ _ _ _ _ (o .0)) (omega arith))
     ]
 
 returns : tie.Need-returns Inv-loop μ-loop
-returns c = let i = c .before .loop .inv in record { sum = summed-all (i .3) (omega arith) (omega arith); small = i .2 }
+returns c = let i = c .before .loop .inv in record { sum = greatest-all (i .3) (omega arith); small = i .2 }
 
 pub greatest-sum-spec : {M : Type 1} → statement M
 greatest-sum-spec =

@@ -80,15 +80,47 @@ fn highest(graph: &Graph, base: u64, query: u64, above: u8, most: u8) -> (u8, u6
     orders.take_while(|(_, core)| *core != 0 && query & !core == 0).last().unwrap_or((above, 0))
 }
 
+fn compare_highest(random: &mut Random, rows: &[u64; 64], graph: &Graph) {
+    let base = random_base(random);
+    let query = random_query(random, base);
+    let bound = 1 + random.below(80);
+    let (above, most) = (random.below(bound) as u8, random.below(80) as u8);
+    let (order, members) = highest(graph, base, query, above, most);
+    assert_eq!(highest_core(rows, base, query, above, most), (order, members, kept(rows, members)));
+}
+
+/// Of rows that are not symmetric: the degree of a badge is the number of rows that it is in.
 #[test]
-fn highest_cores() {
+fn highest_cores_by_columns() {
     let mut random = Random(43);
     for _ in 0..2000 {
-        let (rows, base) = (random_rows(&mut random), random_base(&mut random));
-        let query = random_query(&mut random, base);
-        let bound = 1 + random.below(80);
-        let (above, most) = (random.below(bound) as u8, random.below(80) as u8);
-        let (order, members) = highest(&Graph::of_rows(&rows), base, query, above, most);
-        assert_eq!(highest_core(&rows, base, query, above, most), (order, members, kept(&rows, members)));
+        let rows = random_rows(&mut random);
+        compare_highest(&mut random, &rows, &Graph::new(64, |u, v| rows[v] >> u & 1 == 1));
+    }
+}
+
+/// Of symmetric rows, in which a badge may be its own neighbour: the degree is the number of neighbours.
+#[test]
+fn highest_cores() {
+    let mut random = Random(44);
+    for _ in 0..2000 {
+        let half = random_rows(&mut random);
+        let rows = std::array::from_fn(|u| (0..64).filter(|&v| half[u.min(v)] >> u.max(v) & 1 == 1).map(|v| 1 << v).sum());
+        compare_highest(&mut random, &rows, &Graph::of_rows(&rows));
+    }
+}
+
+/// All badges in contact, or all but a few, where the first order tried is the least degree.
+#[test]
+fn highest_cores_of_dense_rows() {
+    let mut random = Random(45);
+    for missing in (0..4).flat_map(|missing| [missing; 100]) {
+        let mut rows: [u64; 64] = std::array::from_fn(|u| !(1 << u));
+        for _ in 0..missing {
+            let (u, v) = (random.below(64), random.below(64));
+            rows[u] &= !(1 << v);
+            rows[v] &= !(1 << u);
+        }
+        compare_highest(&mut random, &rows, &Graph::of_rows(&rows));
     }
 }

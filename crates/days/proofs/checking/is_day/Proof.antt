@@ -1,38 +1,41 @@
--- `checking::is_day` meets its contract. The ticks passed are those of a day; in the tick at hand the rows passed are valid; in the row at hand,
--- whose members are other badges below n, all that are no longer unseen have it in their rows. The walk ends as its unseen members get fewer.
+-- `checking::is_day` meets its contract. The ticks passed are those of a day; in the tick at hand the rows of changes passed are valid, and the
+-- others have lost only badges before the one at hand; in the row at hand, whose members are other badges below n, all that are no longer unseen
+-- have it in their rows. The walk ends as its unseen members get fewer.
 use mathlib.Core.Bool.{true, false}
 use mathlib.Core.List.{List}
 use mathlib.Core.Path.{_≡_, refl, sym, ap, ap₂, _∙_}
-use Prim.Native.Nat.{ℕ, _+_, _*_, _-_, _^_, _≤_, _<_, min}
+use Prim.Native.Nat.{ℕ, _-_, _≤_, _<_, min}
 use native.Mathlib.Omega.{arith}
-use lib.ListN.{length, getD, take, drop, length-take, length-drop}
+use lib.ListN.{getD}
 use borrow.Author.Needs.{needs}
-use borrow.Author.Tests.{not-true, not-false}
+use borrow.Author.Tests.{not-true, not-false, eqb-true}
 use borrow.Author.Count.{below-none, below-more}
-use Rattle.sets.specs.Sets.{In, has, Sub, isSub, difference, only, full, size}
+use Rattle.sets.specs.Sets.{In, has, isSub, difference, only, full, size}
 use Rattle.sets.specs.Members.{capacity, members}
 use Rattle.sets.proofs.Bools.{clash}
-use Rattle.sets.proofs.Sets.{in-test, out-test, of-difference, is-sub-in, is-sub-of, of-full}
+use Rattle.sets.proofs.Sets.{in-test, out-test, is-sub-in, is-sub-of, none-sub, sub-trans}
 use Rattle.sets.proofs.Size.{size-without}
-use Rattle.sets.proofs.Walks.{smallest-unseen, none-unseen}
+use Rattle.sets.proofs.Walks.{smallest-unseen, none-unseen, rest-is}
 use Rattle.days.specs.Days.{neighbours, IsTick, IsDay, isDay}
-use Rattle.days.proofs.Days.{tick-fits, neighbours-part}
-use Rattle.days.proofs.Scan.{ValidRow, Walked, walk-none, walk-more, walk-done, tick-done, day-in, day-broken}
+use Rattle.days.specs.Changes.{change}
+use Rattle.days.proofs.Days.{tick-fits}
+use Rattle.days.proofs.Changes.{change-of}
+use Rattle.days.proofs.Scan.{ValidRow, LeftAt, left-none, Walked, walk-none, walk-lt, walk-member, walk-broken, walk-more, walk-done, tick-done, day-in, day-broken}
 use Rattle.days.proofs.checking.is_day.Statement.{statement}
 use Rattle.days.proofs.checking.is_day.Tie as tie
 
 abbrev Inv-loop2 : tie.InvT-loop2
-Inv-loop2 words n ticks good₀ badges t base tick u unseen₀ good unseen = (good ≡ true) × Walked (neighbours n words t) u (members unseen)
+Inv-loop2 words n ticks good₀ badges t changed₀ u unseen₀ good changed unseen = (good ≡ true) × Walked n (change n words t) u changed (members unseen)
 
 abbrev μ-loop2 : tie.MeasureT-loop2
-μ-loop2 words n ticks good₀ badges t base tick u unseen₀ good unseen = size (members unseen)
+μ-loop2 words n ticks good₀ badges t changed₀ u unseen₀ good changed unseen = size (members unseen)
 
 abbrev Inv-loop : tie.InvT-loop
-Inv-loop words n ticks good₀ badges t base tick u₀ good u =
-    (good ≡ true) × ((k : ℕ) → k < u → ValidRow n (neighbours n words t) k) × (u ≤ n)
+Inv-loop words n ticks good₀ badges t changed₀ u₀ good changed u =
+    (good ≡ true) × ((k : ℕ) → k < u → ValidRow n (change n words t) k) × (u ≤ n) × LeftAt n (change n words t) u changed
 
 abbrev μ-loop : tie.MeasureT-loop
-μ-loop words n ticks good₀ badges t base tick u₀ good u = n - u
+μ-loop words n ticks good₀ badges t changed₀ u₀ good changed u = n - u
 
 abbrev Inv-scan : tie.InvT-scan
 Inv-scan words n ticks good₀ badges t₀ good t = (good ≡ true) × ((k : ℕ) → k < t → IsTick n (neighbours n words k)) × (t ≤ ticks)
@@ -40,7 +43,7 @@ Inv-scan words n ticks good₀ badges t₀ good t = (good ≡ true) × ((k : ℕ
 abbrev μ-scan : tie.MeasureT-scan
 μ-scan words n ticks good₀ badges t₀ good t = ticks - t
 
--- A turn of the loop over a tick's badges: the words, n, the tick, the badge, and the row of each badge in the tick.
+-- A turn of the loop over a tick's badges: the words, n, the tick, the badge, and the changes in the row of each badge.
 abbrev Turn : Type 0
 Turn = tie.In-loop Inv-loop2 μ-loop2 Inv-loop μ-loop Inv-scan μ-scan
 
@@ -57,17 +60,14 @@ abbrev Badge : Turn → ℕ
 Badge r = r .before .loop .u
 
 abbrev Rows : Turn → ℕ → ℕ
-Rows r = neighbours (N r) (Words r) (Tick r)
+Rows r = change (N r) (Words r) (Tick r)
 
-abbrev Part : Turn → List ℕ
-Part r = take (Tick r * N r + N r - Tick r * N r) (drop (Tick r * N r) (Words r))
-
--- A turn of the walk over a row: the turn of the badge, its members unseen and the one at hand.
+-- A turn of the walk over a row: the turn of the badge, what holds on the walk, its members unseen and the one at hand.
 abbrev Step : Type 0
 Step = tie.After-smallest Inv-loop2 μ-loop2 Inv-loop μ-loop Inv-scan μ-scan
 
 abbrev Row : Step → Turn
-Row i = i .before .before .before .before .before .before .before .before .before
+Row i = i .before .before .before .before .before .before .before .before .before .before
 
 abbrev Unseen : Step → ℕ
 Unseen i = members (i .before .before .before .loop2 .unseen)
@@ -75,70 +75,56 @@ Unseen i = members (i .before .before .before .loop2 .unseen)
 abbrev Other : Step → ℕ
 Other i = i .smallest .result
 
--- the words of the tick at hand are there
-here : (c : tie.In-scan Inv-loop2 μ-loop2 Inv-loop μ-loop Inv-scan μ-scan) →
-    let a = c .before .before .before .before .args in c .before .scan .t * a .n + a .n ≤ length (a .words .now)
-here c =
-    let a = c .before .before .before .before .args in
-    omega (arith, tick-fits (c .before .scan .t) (a .ticks) (a .n) (c .scan-test .taken))
+abbrev Left : Step → List ℕ
+Left i = i .before .before .before .loop2 .changed
 
--- so the part that is taken has n words, and they are the rows of the tick
-part-length : (r : Turn) → length (Part r) ≡ N r
-part-length r = let h = here (r .before .before .before) in simp (length-take, length-drop) (omega arith)
-
-part-row : (r : Turn) (v : ℕ) → v < N r → getD (Part r) v 0 ≡ Rows r v
-part-row r v l = let k : v < Tick r * N r + N r - Tick r * N r = omega arith in neighbours-part (N r) (Words r) (Tick r) _ v k
+walk : (i : Step) → Walked (N (Row i)) (Rows (Row i)) (Badge (Row i)) (Left i) (Unseen i)
+walk i = i .before .before .before .loop2 .inv .1
 
 -- where the row of a badge is not valid, the words are not a day
 broken : (r : Turn) → (ValidRow (N r) (Rows r) (Badge r) → ⊥) →
     false ≡ isDay (N r) (r .before .before .before .before .before .before .before .args .ticks) (Words r)
 broken r f = sym (day-broken (N r) _ (Words r) (Tick r) (Badge r) (r .before .before .before .scan-test .taken) (r .loop-test .taken) f)
 
--- the set that is tested and walked is the row of the badge
-row : (c : tie.After-from-word Inv-loop2 μ-loop2 Inv-loop μ-loop Inv-scan μ-scan) →
-    let r = c .before .before in members (c .from-word .result) ≡ Rows r (Badge r)
-row c = let r = c .before .before in c .from-word .ensures ∙ part-row r (Badge r) (r .loop-test .taken)
-
--- what the program tests of the whole row
+-- what the program tests of what is left of the row
 tested : (c : tie.After-is-subset Inv-loop2 μ-loop2 Inv-loop μ-loop Inv-scan μ-scan) →
-    let r = c .before .before .before .before in c .is-subset .result ≡ isSub (Rows r (Badge r)) (difference (full (N r)) (only (Badge r)))
+    let r = c .before .before .before .before .before in
+    c .is-subset .result ≡ isSub (getD (r .before .loop .changed) (Badge r) 0) (difference (full (N r)) (only (Badge r)))
 tested c =
-    let r = c .before .before .before .before in
+    let r = c .before .before .before .before .before in
     let e : min (N r) capacity ≡ N r = omega arith in
     let all = r .before .before .before .before .before .full .ensures ∙ ap full e in
-    c .is-subset .ensures ∙ ap₂ isSub (row (c .before .before)) (c .before .without .ensures ∙ ap (λ (x : ℕ). difference x (only (Badge r))) all)
+    c .is-subset .ensures ∙ ap₂ isSub (c .before .before .before .before .from-word .ensures)
+    (c .before .without .ensures ∙ ap (λ (x : ℕ). difference x (only (Badge r))) all)
 
-others : (c : tie.Else1 Inv-loop2 μ-loop2 Inv-loop μ-loop Inv-scan μ-scan) →
-    let r = c .before .before .before .before .before in Sub (Rows r (Badge r)) (difference (full (N r)) (only (Badge r)))
-others c = is-sub-of _ _ (sym (tested (c .before)) ∙ not-false _ (c .if1 .left))
-
--- the badge at hand is one of the unseen, so it is in the row, and below n
+-- the badge at hand is one of the unseen, so it is below n
 unseen-in : (i : Step) → In (Unseen i) (Other i)
-unfolding neighbours
 unseen-in i =
-    let r = Row i in
-    let known : Rows r (Badge r) < 2 ^ capacity = omega (arith, r .before .before .before .before .before .before .shared-slice-known .given (Tick r * N r + Badge r)) in
-    smallest-unseen (i .before .before .before .loop2 .inv .1 .subset) known (i .before .before .is-empty .ensures) (i .before .if2 .taken) (i .smallest .ensures) .0
-
-member : (i : Step) → In (Rows (Row i) (Badge (Row i))) (Other i)
-member i = i .before .before .before .loop2 .inv .1 .subset .at (Other i) (unseen-in i)
+    smallest-unseen (walk i .subset) (walk-lt (walk i) (omega arith)) (i .before .before .is-empty2 .ensures) (i .before .if3 .taken) (i .smallest .ensures) .0
 
 other-small : (i : Step) → Other i < N (Row i)
-other-small i = of-full (N (Row i)) (Other i) (of-difference _ (only (Badge (Row i))) (Other i) (others (i .before .before .before .before) .at (Other i) (member i)) .0)
+other-small i = walk-member (walk i) (Other i) (unseen-in i) .1
 
--- what the program tests of it: whether its row has the badge whose row is walked
+-- what the program tests of it: whether what is left of its row has the badge whose row is walked
 mirror : (c : tie.After-has Inv-loop2 μ-loop2 Inv-loop μ-loop Inv-scan μ-scan) →
-    let i = c .before .before .before in c .has .result ≡ has (Rows (Row i) (Other i)) (Badge (Row i))
+    let i = c .before .before in c .has .result ≡ has (getD (Left i) (Other i) 0) (Badge (Row i))
 mirror c =
-    let i = c .before .before .before in
-    c .has .ensures ∙ ap (λ (x : ℕ). has x (Badge (Row i))) (c .before .from-word2 .ensures ∙ part-row (Row i) (Other i) (other-small i))
+    let i = c .before .before in
+    c .has .ensures ∙ ap (λ (x : ℕ). has x (Badge (Row i))) (c .before .from-word2 .ensures)
+
+-- what is stored is what was left of its row without the badge whose row is walked
+stored : (c : tie.After-to-word Inv-loop2 μ-loop2 Inv-loop μ-loop Inv-scan μ-scan) →
+    let i = c .before .before .before .before .before in c .to-word .result ≡ difference (getD (Left i) (Other i) 0) (only (Badge (Row i)))
+stored c =
+    let i = c .before .before .before .before .before in
+    c .to-word .ensures ∙ c .before .without2 .ensures ∙ ap (λ (x : ℕ). difference x (only (Badge (Row i)))) (c .before .before .before .before .from-word2 .ensures)
 
 -- the set that is left has lost the badge at hand
 stepped : (c : tie.After-rest Inv-loop2 μ-loop2 Inv-loop μ-loop Inv-scan μ-scan) →
-    let i = c .before .before .before .before .before in members (c .rest .result) ≡ difference (Unseen i) (only (Other i))
+    let i = c .before .before .before .before .before .before in members (c .rest .result) ≡ difference (Unseen i) (only (Other i))
 stepped c =
-    let i = c .before .before .before .before .before in
-    c .rest .ensures ∙ ap (λ (x : ℕ). difference (Unseen i) (only x)) (sym (i .smallest .ensures))
+    let i = c .before .before .before .before .before .before in
+    rest-is capacity (Unseen i) (i .smallest .ensures) (c .rest .ensures)
 
 full-requires : tie.Need-full-requires Inv-loop2 μ-loop2 Inv-loop μ-loop Inv-scan μ-scan
 full-requires c κs = search needs
@@ -146,77 +132,25 @@ full-requires c κs = search needs
 scan-holds : tie.Need-scan-holds Inv-loop2 μ-loop2 Inv-loop μ-loop Inv-scan μ-scan
 scan-holds c = (refl, below-none _, search needs)
 
-mul-base : tie.Need-mul-base Inv-loop2 μ-loop2 Inv-loop μ-loop Inv-scan μ-scan
-mul-base c = omega (arith, here c)
-
-add-tick : tie.Need-add-tick Inv-loop2 μ-loop2 Inv-loop μ-loop Inv-scan μ-scan
-add-tick c = omega (arith, here c)
-
-mul-tick : tie.Need-mul-tick Inv-loop2 μ-loop2 Inv-loop μ-loop Inv-scan μ-scan
-mul-tick c = omega (arith, here c)
-
-sub-tick : tie.Need-sub-tick Inv-loop2 μ-loop2 Inv-loop μ-loop Inv-scan μ-scan
-sub-tick c = search needs
-
-part-tick-start : tie.Need-part-tick-start Inv-loop2 μ-loop2 Inv-loop μ-loop Inv-scan μ-scan
-part-tick-start c = search needs
-
-part-tick-end : tie.Need-part-tick-end Inv-loop2 μ-loop2 Inv-loop μ-loop Inv-scan μ-scan
-part-tick-end c = omega (arith, here c)
+changes-requires : tie.Need-changes-requires Inv-loop2 μ-loop2 Inv-loop μ-loop Inv-scan μ-scan
+changes-requires c κs =
+    let a = c .before .before .before .before .args in
+    (search needs, omega (arith, tick-fits (c .before .scan .t) (a .ticks) (a .n) (c .scan-test .taken)))
 
 loop-holds : tie.Need-loop-holds Inv-loop2 μ-loop2 Inv-loop μ-loop Inv-scan μ-scan
-loop-holds c = (search needs, below-none _, search needs)
+loop-holds c = (search needs, below-none _, search needs, left-none _ _ (c .changes .ensures .at))
 
 mul-from-word : tie.Need-mul-from-word Inv-loop2 μ-loop2 Inv-loop μ-loop Inv-scan μ-scan
 mul-from-word c = search needs
 
-shared-slice-read-from-word :
-    tie.Need-shared-slice-read-from-word Inv-loop2 μ-loop2 Inv-loop μ-loop Inv-scan μ-scan
-shared-slice-read-from-word c = omega (arith, part-length (c .before))
+array-read-from-word : tie.Need-array-read-from-word Inv-loop2 μ-loop2 Inv-loop μ-loop Inv-scan μ-scan
+array-read-from-word c = omega arith
 
 from-word-requires : tie.Need-from-word-requires Inv-loop2 μ-loop2 Inv-loop μ-loop Inv-scan μ-scan
 from-word-requires c κs = search needs
 
-without-requires : tie.Need-without-requires Inv-loop2 μ-loop2 Inv-loop μ-loop Inv-scan μ-scan
-without-requires c κs = search needs
-
-is-subset-requires : tie.Need-is-subset-requires Inv-loop2 μ-loop2 Inv-loop μ-loop Inv-scan μ-scan
-is-subset-requires c κs = search needs
-
-loop2-holds : tie.Need-loop2-holds Inv-loop2 μ-loop2 Inv-loop μ-loop Inv-scan μ-scan
-loop2-holds c = (search needs, walk-none _ _ _ (row (c .before .before .before)))
-
 is-empty-requires : tie.Need-is-empty-requires Inv-loop2 μ-loop2 Inv-loop μ-loop Inv-scan μ-scan
 is-empty-requires c κs = search needs
-
-smallest-requires : tie.Need-smallest-requires Inv-loop2 μ-loop2 Inv-loop μ-loop Inv-scan μ-scan
-smallest-requires c κs = search needs
-
-mul-from-word-2 : tie.Need-mul-from-word-2 Inv-loop2 μ-loop2 Inv-loop μ-loop Inv-scan μ-scan
-mul-from-word-2 c = omega (arith, other-small c)
-
-shared-slice-read-from-word-2 :
-    tie.Need-shared-slice-read-from-word-2 Inv-loop2 μ-loop2 Inv-loop μ-loop Inv-scan μ-scan
-shared-slice-read-from-word-2 c = omega (arith, other-small (c .before), part-length (Row (c .before)))
-
-from-word-requires-2 :
-    tie.Need-from-word-requires-2 Inv-loop2 μ-loop2 Inv-loop μ-loop Inv-scan μ-scan
-from-word-requires-2 c κs = search needs
-
-has-requires : tie.Need-has-requires Inv-loop2 μ-loop2 Inv-loop μ-loop Inv-scan μ-scan
-has-requires c κs = search needs
-
-rest-requires : tie.Need-rest-requires Inv-loop2 μ-loop2 Inv-loop μ-loop Inv-scan μ-scan
-rest-requires c κs = search needs
-
-loop2-less : tie.Need-loop2-less Inv-loop2 μ-loop2 Inv-loop μ-loop Inv-scan μ-scan
-loop2-less c = let i = c .before .before .before .before .before in rw (stepped c) (size-without (Unseen i) (Other i) (unseen-in i))
-
-loop2-again : tie.Need-loop2-again Inv-loop2 μ-loop2 Inv-loop μ-loop Inv-scan μ-scan
-loop2-again c =
-    let i = c .before .before .before .before .before in
-    let mirrored = in-test _ (Badge (Row i)) (sym (mirror (c .before .before)) ∙ not-false _ (c .before .if3 .left)) in
-    (search needs, rw (stepped c) (walk-more (Other i) (i .before .before .before .loop2 .inv .1) mirrored))
 
 add-u : tie.Need-add-u Inv-loop2 μ-loop2 Inv-loop μ-loop Inv-scan μ-scan
 add-u c = search needs
@@ -226,13 +160,79 @@ loop-less c = search needs
 
 loop-again : tie.Need-loop-again Inv-loop2 μ-loop2 Inv-loop μ-loop Inv-scan μ-scan
 loop-again c =
-    let e = c .before .before .before in
-    let r = e .before .before .before .before .before in
-    let valid : ValidRow (N r) (Rows r) (Badge r) = record {
-      others = others e;
-      mirrored = walk-done (c .before .before .loop2 .inv .1) (none-unseen (c .before .is-empty .ensures) (c .if2 .left));
-    } in
-    (search needs, below-more _ _ (r .before .loop .inv .1) valid, search needs)
+    let r = c .before .before .before in
+    let e = eqb-true _ _ (sym (c .before .is-empty .ensures) ∙ c .if1 .taken) in
+    let d = walk-done (walk-none 0 (r .before .loop .inv .3) (r .loop-test .taken) (sym e ∙ c .before .before .from-word .ensures) (none-sub _)) refl in
+    (search needs, below-more _ _ (r .before .loop .inv .1) (d .0), search needs, d .1)
+
+without-requires : tie.Need-without-requires Inv-loop2 μ-loop2 Inv-loop μ-loop Inv-scan μ-scan
+without-requires c κs = search needs
+
+is-subset-requires : tie.Need-is-subset-requires Inv-loop2 μ-loop2 Inv-loop μ-loop Inv-scan μ-scan
+is-subset-requires c κs = search needs
+
+loop2-holds : tie.Need-loop2-holds Inv-loop2 μ-loop2 Inv-loop μ-loop Inv-scan μ-scan
+loop2-holds c =
+    let w = c .before .before .before .before .before in
+    let r = w .before in
+    let others = is-sub-of _ _ (sym (tested (c .before)) ∙ not-false _ (c .if2 .left)) in
+    (search needs, walk-none _ (r .before .loop .inv .3) (r .loop-test .taken) (w .from-word .ensures) (rw (w .from-word .ensures) others))
+
+is-empty-requires-2 : tie.Need-is-empty-requires-2 Inv-loop2 μ-loop2 Inv-loop μ-loop Inv-scan μ-scan
+is-empty-requires-2 c κs = search needs
+
+smallest-requires : tie.Need-smallest-requires Inv-loop2 μ-loop2 Inv-loop μ-loop Inv-scan μ-scan
+smallest-requires c κs = search needs
+
+mul-from-word-2 : tie.Need-mul-from-word-2 Inv-loop2 μ-loop2 Inv-loop μ-loop Inv-scan μ-scan
+mul-from-word-2 c = omega (arith, other-small c)
+
+array-read-from-word-2 : tie.Need-array-read-from-word-2 Inv-loop2 μ-loop2 Inv-loop μ-loop Inv-scan μ-scan
+array-read-from-word-2 c = omega (arith, other-small c)
+
+from-word-requires-2 : tie.Need-from-word-requires-2 Inv-loop2 μ-loop2 Inv-loop μ-loop Inv-scan μ-scan
+from-word-requires-2 c κs = search needs
+
+has-requires : tie.Need-has-requires Inv-loop2 μ-loop2 Inv-loop μ-loop Inv-scan μ-scan
+has-requires c κs = search needs
+
+without-requires-2 : tie.Need-without-requires-2 Inv-loop2 μ-loop2 Inv-loop μ-loop Inv-scan μ-scan
+without-requires-2 c κs = search needs
+
+to-word-requires : tie.Need-to-word-requires Inv-loop2 μ-loop2 Inv-loop μ-loop Inv-scan μ-scan
+to-word-requires c κs = search needs
+
+mul-changed : tie.Need-mul-changed Inv-loop2 μ-loop2 Inv-loop μ-loop Inv-scan μ-scan
+mul-changed c = omega (arith, other-small (c .before .before .before .before .before))
+
+array-write-changed : tie.Need-array-write-changed Inv-loop2 μ-loop2 Inv-loop μ-loop Inv-scan μ-scan
+array-write-changed c = omega (arith, other-small (c .before .before .before .before .before))
+
+rest-requires : tie.Need-rest-requires Inv-loop2 μ-loop2 Inv-loop μ-loop Inv-scan μ-scan
+rest-requires c κs = search needs
+
+loop2-less : tie.Need-loop2-less Inv-loop2 μ-loop2 Inv-loop μ-loop Inv-scan μ-scan
+loop2-less c = let i = c .before .before .before .before .before .before in rw (stepped c) (size-without (Unseen i) (Other i) (unseen-in i))
+
+loop2-again : tie.Need-loop2-again Inv-loop2 μ-loop2 Inv-loop μ-loop Inv-scan μ-scan
+loop2-again c =
+    let w = c .before in
+    let i = w .before .before .before .before .before in
+    let mirrored = in-test _ (Badge (Row i)) (sym (mirror (w .before .before .before)) ∙ not-false _ (w .before .before .if4 .left)) in
+    (search needs, rw (stepped c, stored w) (walk-more (walk i) (Other i) (unseen-in i) mirrored))
+
+add-u-2 : tie.Need-add-u-2 Inv-loop2 μ-loop2 Inv-loop μ-loop Inv-scan μ-scan
+add-u-2 c = search needs
+
+loop-less-2 : tie.Need-loop-less-2 Inv-loop2 μ-loop2 Inv-loop μ-loop Inv-scan μ-scan
+loop-less-2 c = search needs
+
+loop-again-2 : tie.Need-loop-again-2 Inv-loop2 μ-loop2 Inv-loop μ-loop Inv-scan μ-scan
+loop-again-2 c =
+    let l = c .before .before in
+    let r = l .before .before .before .before .before .before .before in
+    let d = walk-done (l .loop2 .inv .1) (none-unseen (c .before .is-empty2 .ensures) (c .if3 .left)) in
+    (search needs, below-more _ _ (r .before .loop .inv .1) (d .0), search needs, d .1)
 
 add-t : tie.Need-add-t Inv-loop2 μ-loop2 Inv-loop μ-loop Inv-scan μ-scan
 add-t c = search needs
@@ -241,11 +241,9 @@ scan-less : tie.Need-scan-less Inv-loop2 μ-loop2 Inv-loop μ-loop Inv-scan μ-s
 scan-less c = search needs
 
 scan-again : tie.Need-scan-again Inv-loop2 μ-loop2 Inv-loop μ-loop Inv-scan μ-scan
-scan-again c = (
-  search needs,
-  below-more _ _ (c .before .before .before .before .scan .inv .1) (tick-done _ _ (λ u l. c .before .loop .inv .1 u (omega arith))),
-  search needs,
-)
+scan-again c =
+    let day = c .before .before .before .before .scan .inv .1 in
+    (search needs, below-more _ _ day (change-of _ _ _ day (tick-done _ _ (λ u l. c .before .loop .inv .1 u (omega arith)))), search needs)
 
 returns : tie.Need-returns Inv-loop2 μ-loop2 Inv-loop μ-loop Inv-scan μ-scan
 returns c =
@@ -254,12 +252,14 @@ returns c =
     c .before .scan .inv .0 ∙ sym (day-in _ _ _ day)
 
 returns-2 : tie.Need-returns-2 Inv-loop2 μ-loop2 Inv-loop μ-loop Inv-scan μ-scan
-returns-2 c = broken (c .before .before .before .before .before) (λ p. clash (is-sub-in (p .others)) (sym (tested (c .before)) ∙ not-true _ (c .if1 .taken)))
+returns-2 c =
+    let r = c .before .before .before .before .before .before in
+    broken r (λ p. clash (is-sub-in (sub-trans (r .before .loop .inv .3 .subset (Badge r) (r .loop-test .taken)) (p .others))) (sym (tested (c .before)) ∙ not-true _ (c .if2 .taken)))
 
 returns-3 : tie.Need-returns-3 Inv-loop2 μ-loop2 Inv-loop μ-loop Inv-scan μ-scan
 returns-3 c =
-    let i = c .before .before .before .before in
-    broken (Row i) (λ p. out-test _ (Badge (Row i)) (sym (mirror (c .before)) ∙ not-true _ (c .if3 .taken)) (p .mirrored (Other i) (member i)))
+    let i = c .before .before .before in
+    broken (Row i) (walk-broken (walk i) (Other i) (unseen-in i) (out-test _ (Badge (Row i)) (sym (mirror (c .before)) ∙ not-true _ (c .if4 .taken))))
 
 pub is-day-spec : {M : Type 1} → statement M
 is-day-spec =
@@ -273,31 +273,34 @@ is-day-spec =
     μ-scan
     full-requires
     scan-holds
-    mul-base
-    add-tick
-    mul-tick
-    sub-tick
-    part-tick-start
-    part-tick-end
+    changes-requires
     loop-holds
     mul-from-word
-    shared-slice-read-from-word
+    array-read-from-word
     from-word-requires
-    without-requires
-    is-subset-requires
-    loop2-holds
     is-empty-requires
-    smallest-requires
-    mul-from-word-2
-    shared-slice-read-from-word-2
-    from-word-requires-2
-    has-requires
-    rest-requires
-    loop2-less
-    loop2-again
     add-u
     loop-less
     loop-again
+    without-requires
+    is-subset-requires
+    loop2-holds
+    is-empty-requires-2
+    smallest-requires
+    mul-from-word-2
+    array-read-from-word-2
+    from-word-requires-2
+    has-requires
+    without-requires-2
+    to-word-requires
+    mul-changed
+    array-write-changed
+    rest-requires
+    loop2-less
+    loop2-again
+    add-u-2
+    loop-less-2
+    loop-again-2
     add-t
     scan-less
     scan-again

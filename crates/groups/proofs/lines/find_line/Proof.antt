@@ -6,8 +6,10 @@ use lib.ListN.{length, getD}
 use borrow.Author.Needs.{needs}
 use Rattle.sets.specs.Members.{members}
 use Rattle.records.proofs.WithinLimits.{limits-of}
+use Rattle.cores.proofs.Columns.{symmetric-highest}
 use Rattle.spans.proofs.SpanRows.{span-length}
 use Rattle.groups.proofs.Narrowing.{going-start, going-size}
+use Rattle.groups.proofs.RowCores.{rows-symmetric, within}
 use Rattle.groups.proofs.LineLoops.{CoreAsked, bounds-meet, core-found, Finding, first-span, finding-start, finding-asks, place-orders, place-members, finding-next, finding-end}
 use Rattle.groups.proofs.lines.find_line.Statement.{statement}
 use Rattle.groups.proofs.lines.find_line.Tie as tie
@@ -44,11 +46,11 @@ at-cores i =
 small : (i : Turn) → i .before .loop .last * 8 < 1000
 small i = omega (arith, i .loop-test .taken, limits-of (i .before .before .before .before .before .before .pre .0 .limits) .short)
 
-span-rows-requires : tie.Need-span-rows-requires Inv-loop μ-loop
-span-rows-requires c κs = let p = c .before .before .before .pre in first-span (p .0) (p .1)
+first-rows-requires : tie.Need-first-rows-requires Inv-loop μ-loop
+first-rows-requires c κs = let p = c .before .before .before .pre in first-span (p .0) (p .1)
 
 loop-holds : tie.Need-loop-holds Inv-loop μ-loop
-loop-holds c = let p = c .before .before .before .before .pre in finding-start (p .0) (p .1) (p .2) (c .span-rows .ensures) (p .3)
+loop-holds c = let p = c .before .before .before .before .pre in finding-start (p .0) (p .1) (p .2) (c .first-rows .ensures) (p .3)
 
 slice-read-lower : tie.Need-slice-read-lower Inv-loop μ-loop
 slice-read-lower c = at-orders (c .before)
@@ -117,8 +119,11 @@ loop-again-2 c =
     let n = h .before .before .before .before in
     let i = turn (c .before) in
     let p = i .before .before .before .before .before .before .pre in
-    finding-next (p .0) (p .1) (p .2) (i .before .loop .inv) (i .loop-test .taken)
-    (core-found (asked i) (n .narrow-to .ensures) (h .before .united .ensures) (h .highest-core .ensures .order) (c .to-word .ensures ∙ h .highest-core .ensures .members))
+    let s = asked i .span in
+    let e = n .narrow-to .ensures in
+    let b = h .before .united .ensures in
+    let q = symmetric-highest (rows-symmetric s e _ (within s e b)) (h .highest-core .ensures) in
+    finding-next (p .0) (p .1) (p .2) (i .before .loop .inv) (i .loop-test .taken) (core-found (asked i) e b (q .order) (c .to-word .ensures ∙ q .members))
 
 same-length : tie.Need-same-length Inv-loop μ-loop
 same-length c = c .before .loop .inv .found .orders-size
@@ -135,7 +140,7 @@ find-line-spec =
     (tie.spec
     Inv-loop
     μ-loop
-    span-rows-requires
+    first-rows-requires
     loop-holds
     slice-read-lower
     slice-write-orders

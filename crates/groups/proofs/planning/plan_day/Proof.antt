@@ -64,23 +64,24 @@ slice-aggregate-encode-plan c = search needs
 
 encode-plan-requires : tie.Need-encode-plan-requires
 encode-plan-requires c κs = record {
-  lent = c .before .before .before .before .before .before .before .before .before .before .before .before .before .before .pre;
-  cutting = found (c .before .before) .cutting;
+  lent = c .before .before .before .before .before .before .before .before .before .before .before .before .before .before .before .pre;
+  scored = c .before .before .before .before .before .before .fill-scores .ensures;
+  cutting = found (c .before .before .before) .cutting;
   ends-size = search needs;
-  room = omega (arith, few (c .before .before .before .before .before .before .before));
+  room = omega (arith, few (c .before .before .before .before .before .before .before .before));
 }
 
 mul-bytes : tie.Need-mul-bytes
-mul-bytes c = omega (arith, few (c .before .before .before .before .before .before .before .before .before))
+mul-bytes c = omega (arith, few (c .before .before .before .before .before .before .before .before .before .before))
 
 add-bytes : tie.Need-add-bytes
-add-bytes c = omega (arith, few (c .before .before .before .before .before .before .before .before .before))
+add-bytes c = omega (arith, few (c .before .before .before .before .before .before .before .before .before .before))
 
 array-share-prefix-bytes : tie.Need-array-share-prefix-bytes
-array-share-prefix-bytes c = omega (arith, few (c .before .before .before .before .before .before .before .before .before))
+array-share-prefix-bytes c = omega (arith, few (c .before .before .before .before .before .before .before .before .before .before))
 
 slice-aggregate-deliver : tie.Need-slice-aggregate-deliver
-slice-aggregate-deliver c = sym (length-take-le _ _ (omega (arith, few (c .before .before .before .before .before .before .before .before .before .before))))
+slice-aggregate-deliver c = sym (length-take-le _ _ (omega (arith, few (c .before .before .before .before .before .before .before .before .before .before .before))))
 
 deliver-requires : tie.Need-deliver-requires
 deliver-requires c κs = search needs
@@ -95,7 +96,7 @@ returns-4 : tie.Need-returns-4
 returns-4 c =
     let d = c .before .before .before in
     let n = d .before .before .before .before in
-    let f = n .before .before .before in
+    let f = n .before .before .before .before in
     let s = f .before .before .before .before .before .before .before .before in
     let a = s .before .before .before .before .args in
     let q = sym (asked s) ∙ not-false _ (f .before .before .before .before .before .before .before .if1 .left) in

@@ -66,13 +66,13 @@ loop-again c =
     so-far-next (i .before .loop .inv) (i .loop-test .taken) (f .find-line .ensures) (a .append-line .ensures)
 
 mul-put-record : tie.Need-mul-put-record Inv-loop μ-loop
-mul-put-record c = omega (arith, so-far-count (c .before .before .loop .inv))
+mul-put-record c = omega (arith, so-far-count (c .before .before .loop .inv) .1)
 
 add-put-record : tie.Need-add-put-record Inv-loop μ-loop
-add-put-record c = omega (arith, so-far-count (c .before .before .loop .inv))
+add-put-record c = omega (arith, so-far-count (c .before .before .loop .inv) .1)
 
 cast-t36 : tie.Need-cast-t36 Inv-loop μ-loop
-cast-t36 c = omega (arith, so-far-count (c .before .before .loop .inv))
+cast-t36 c = omega (arith, so-far-count (c .before .before .loop .inv) .1)
 
 put-record-requires : tie.Need-put-record-requires Inv-loop μ-loop
 put-record-requires c κs = search needs

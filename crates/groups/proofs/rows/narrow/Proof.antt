@@ -1,5 +1,4 @@
--- `narrow` meets its contract: after u turns the first u rows are narrowed. For the rows of a span and the words of the next tick this makes
--- the rows of the longer span.
+-- `narrow` meets its contract: after u turns the first u rows are narrowed, and in the end they are the rows of the longer span.
 use mathlib.Core.Path.{_≡_, refl, sym, _∙_}
 use Prim.Native.Nat.{_-_, _≤_}
 use native.Mathlib.Omega.{arith}
@@ -7,7 +6,7 @@ use lib.ListN.{length, length-set}
 use borrow.Author.Needs.{needs}
 use Rattle.sets.specs.Sets.{intersection}
 use Rattle.sets.specs.Members.{capacity}
-use Rattle.groups.proofs.Narrowing.{narrowing, narrow-none, narrow-more, narrow-done, narrows}
+use Rattle.groups.proofs.Narrowing.{narrowing, narrow-none, narrow-more, narrow-done, step-rows, step-words, step-longer}
 use Rattle.groups.proofs.rows.narrow.Statement.{statement}
 use Rattle.groups.proofs.rows.narrow.Tie as tie
 
@@ -18,7 +17,7 @@ abbrev μ-loop : tie.MeasureT-loop
 μ-loop rows₀ tick u₀ u-end rows u = u-end - u
 
 loop-holds : tie.Need-loop-holds Inv-loop μ-loop
-loop-holds c = (search needs, refl, c .pre .0, c .pre .1, narrow-none (c .args .rows .now) (c .args .tick .now) (c .pre .0))
+loop-holds c = (search needs, refl, step-rows (c .pre), step-words (c .pre), narrow-none (c .args .rows .now) (c .args .tick .now) (step-rows (c .pre)))
 
 mul-rows : tie.Need-mul-rows Inv-loop μ-loop
 mul-rows c = search needs
@@ -52,14 +51,13 @@ loop-again c =
     (search needs, refl, length-set (l .rows) (l .u) _ ∙ l .inv .2, l .inv .3, narrow-more (a .rows .now) (a .tick .now) (l .u) (omega (arith, c .before .before .loop-test .taken, l .inv .3)) (l .inv .4))
 
 same-length : tie.Need-same-length Inv-loop μ-loop
-same-length c = c .before .loop .inv .2 ∙ sym (c .before .before .pre .0)
+same-length c = c .before .loop .inv .2 ∙ sym (step-rows (c .before .before .pre))
 
 returns : tie.Need-returns Inv-loop μ-loop
 returns c =
     let l = c .before .loop in
     let a = c .before .before .args in
-    let e = narrow-done (a .rows .now) (a .tick .now) (omega (arith, c .loop-test .left)) (l .inv .4) in
-    (e, narrows e)
+    step-longer (narrow-done (a .rows .now) (a .tick .now) (omega (arith, c .loop-test .left)) (l .inv .4))
 
 pub narrow-spec : {M : Type 1} → statement M
 narrow-spec =

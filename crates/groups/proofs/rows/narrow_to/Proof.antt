@@ -4,8 +4,7 @@ use Prim.Native.Nat.{_+_, _-_, _≤_}
 use native.Mathlib.Omega.{arith}
 use lib.ListN.{length}
 use borrow.Author.Needs.{needs}
-use Rattle.records.proofs.WithinLimits.{limits-of}
-use Rattle.groups.proofs.Narrowing.{tick-inside, Going, going-start, next-inside, next-length, going-next, going-size, going-end}
+use Rattle.groups.proofs.Narrowing.{tick-inside, Going, going-start, next-inside, going-step, going-next, going-size, going-end}
 use Rattle.groups.proofs.rows.narrow_to.Statement.{statement}
 use Rattle.groups.proofs.rows.narrow_to.Tie as tie
 
@@ -46,8 +45,7 @@ part-narrow-end c = omega (arith, inside (c .before))
 narrow-requires : tie.Need-narrow-requires Inv-loop μ-loop
 narrow-requires c κs =
     let l = c .before .before in
-    let p = l .before .before .before .before .pre .0 in
-    (going-size (l .before .loop .inv), omega (arith, next-length p (l .before .loop .inv) (l .loop-test .taken), limits-of (p .lent .limits) .few))
+    going-step (l .before .before .before .before .pre .0) (l .before .loop .inv) (l .loop-test .taken)
 
 add-counter : tie.Need-add-counter Inv-loop μ-loop
 add-counter c = search needs
@@ -59,7 +57,7 @@ loop-again : tie.Need-loop-again Inv-loop μ-loop
 loop-again c =
     let w = c .before .before in
     let l = w .before .before .before in
-    going-next (l .before .before .before .before .pre .0) (l .before .loop .inv) (l .loop-test .taken) (w .narrow .ensures .1)
+    going-next (l .before .before .before .before .pre .0) (l .before .loop .inv) (l .loop-test .taken) (w .narrow .ensures)
 
 same-length : tie.Need-same-length Inv-loop μ-loop
 same-length c = going-size (c .before .loop .inv) ∙ sym (going-size (going-start (c .before .before .before .before .pre .1)))

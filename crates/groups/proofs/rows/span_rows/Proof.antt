@@ -1,57 +1,20 @@
--- `span_rows` meets its contract: the rows of the first tick are those of the span of this tick alone.
-use Prim.Native.Nat.{_+_, _*_, _≤_}
-use native.Mathlib.Omega.{arith}
-use lib.ListN.{length}
+-- `span_rows` meets its contract: the rows of the first tick are narrowed to those of the span.
 use borrow.Author.Needs.{needs}
-use Rattle.groups.proofs.Narrowing.{tick-inside, first-rows}
+use Rattle.groups.proofs.Narrowing.{first-of, first-alone}
 use Rattle.groups.proofs.rows.span_rows.Statement.{statement}
 use Rattle.groups.proofs.rows.span_rows.Tie as tie
 
--- the words of the first tick are among the words
-inside : (c : tie.After-struct-known) → let a = c .before .before .args in a .span .first * a .day .badges + a .day .badges ≤ length (a .words .now)
-inside c = let p = c .before .before .pre in tick-inside _ p (p .rising)
-
-mul-at : tie.Need-mul-at
-mul-at c = omega (arith, inside c)
-
-add-tick-rows : tie.Need-add-tick-rows
-add-tick-rows c = omega (arith, inside c)
-
-mul-tick-rows : tie.Need-mul-tick-rows
-mul-tick-rows c = omega (arith, inside c)
-
-sub-tick-rows : tie.Need-sub-tick-rows
-sub-tick-rows c = search needs
-
-part-tick-rows-start : tie.Need-part-tick-rows-start
-part-tick-rows-start c = search needs
-
-part-tick-rows-end : tie.Need-part-tick-rows-end
-part-tick-rows-end c = omega (arith, inside c)
-
-tick-rows-requires : tie.Need-tick-rows-requires
-tick-rows-requires c κs = search needs
+first-rows-requires : tie.Need-first-rows-requires
+first-rows-requires c κs = first-alone (c .before .pre)
 
 slice-aggregate-narrow-to : tie.Need-slice-aggregate-narrow-to
 slice-aggregate-narrow-to c = search needs
 
 narrow-to-requires : tie.Need-narrow-to-requires
-narrow-to-requires c κs = let t = c .before in let p = t .before .before .before .before .pre in (p, first-rows p (t .tick-rows .ensures))
+narrow-to-requires c κs = let p = c .before .before .before .pre in (p, first-of p (c .before .first-rows .ensures))
 
 returns : tie.Need-returns
 returns c = search needs
 
 pub span-rows-spec : {M : Type 1} → statement M
-span-rows-spec =
-    tie.close
-    (tie.spec
-    mul-at
-    add-tick-rows
-    mul-tick-rows
-    sub-tick-rows
-    part-tick-rows-start
-    part-tick-rows-end
-    tick-rows-requires
-    slice-aggregate-narrow-to
-    narrow-to-requires
-    returns)
+span-rows-spec = tie.close (tie.spec first-rows-requires slice-aggregate-narrow-to narrow-to-requires returns)

@@ -6,9 +6,9 @@ use lib.ListN.{length, getD}
 use borrow.Author.Needs.{needs}
 use Rattle.sets.specs.Members.{capacity}
 use Rattle.sets.proofs.Tables.{front, front-none, front-next}
-use Rattle.groups.proofs.Narrowing.{tick-done}
-use Rattle.groups.proofs.rows.tick_rows.Statement.{statement}
-use Rattle.groups.proofs.rows.tick_rows.Tie as tie
+use Rattle.days.proofs.Changes.{rows-filled}
+use Rattle.days.proofs.rows.tick_rows.Statement.{statement}
+use Rattle.days.proofs.rows.tick_rows.Tie as tie
 
 abbrev Inv-loop : tie.InvT-loop
 Inv-loop tick out₀ u₀ u-end out u = (u ≤ u-end) × (u-end ≡ min capacity (length tick)) × (out ≡ front capacity (λ k. getD tick k 0) u)
@@ -44,7 +44,7 @@ loop-again : tie.Need-loop-again Inv-loop μ-loop
 loop-again c = (search needs, search needs, front-next capacity _ (search needs) refl (c .before .before .loop .inv .2))
 
 returns : tie.Need-returns Inv-loop μ-loop
-returns c = tick-done _ (omega arith) (c .before .loop .inv .2)
+returns c = rows-filled _ (omega arith) (c .before .loop .inv .2)
 
 pub tick-rows-spec : {M : Type 1} → statement M
 tick-rows-spec =
