@@ -4,7 +4,7 @@ use mathlib.Core.List.{List, [], _∷_, _++_, append-assoc}
 use Prim.Native.Nat.{ℕ, zero, suc, _+_, _-_, _*_, _≤_, _<_, zero-le}
 use native.Mathlib.Numerals.{add-one}
 use native.Mathlib.Omega.{arith}
-use lib.ListN.{length, getD, take, length-take}
+use lib.ListN.{length, getD, take, drop, length-take, take-append-drop}
 use lib.Seq.{getD-take, take-suc}
 use Rattle.sets.specs.Ascii.{ascii}
 use Rattle.sets.specs.Bytes.{littleEndian}
@@ -14,7 +14,7 @@ use Rattle.records.specs.Records.{encode}
 use Rattle.records.proofs.Records.{length-encode}
 use Rattle.records.proofs.WithinLimits.{limits-of}
 use Rattle.log.specs.Buffers.{place}
-use Rattle.log.proofs.Delivering.{take-place}
+use Rattle.log.proofs.Delivering.{take-place, drop-place}
 use Rattle.cuts.specs.Cuttings.{Cutting}
 use Rattle.cuts.specs.Sums.{tableScore}
 use Rattle.spans.specs.Spans.{SpanOfDay}
@@ -24,7 +24,7 @@ use Rattle.spans.specs.Encoding.{encodeCore, encodeCores, planBytes}
 use Rattle.spans.proofs.Encoding.{encode-core-length}
 use Rattle.groups.specs.Appending.{AppendsCores}
 use Rattle.groups.specs.Scoring.{PlanParts, EncodesPlan}
-use Rattle.groups.proofs.Appended.{appends-none, appends-then}
+use Rattle.groups.proofs.Appended.{further, appends-none, appends-then}
 
 -- the tick after the ends so far
 pub nextFirst : ℕ → List ℕ → ℕ
@@ -114,7 +114,7 @@ module _ {n T : ℕ} {ws : List ℕ} {query h : ℕ} {ends scores : List ℕ} {i
 pub plan-end : {n T : ℕ} {ws : List ℕ} {query h : ℕ} {ends scores : List ℕ} {i first count : ℕ} {buffer₀ buffer : List ℕ} (given left header : List ℕ)
     → PlanSoFar n T ws query h ends scores i first count buffer₀ buffer → h ≤ i → 13 ≤ length given
     → header ≡ encodeCore (ascii "PH") (record { order = n; first = T; last = h; members = query }) → buffer₀ ≡ place 0 header given
-    → left ≡ place (13 + 13 * count) (encode (End count)) buffer → EncodesPlan n T ws query h ends left
+    → left ≡ place (13 + 13 * count) (encode (End count)) buffer → EncodesPlan n T ws query h ends given left
 unfolding planBytes encodeCore
 plan-end {n} {T} {ws} {query} {h} {ends} {i = i} {first} {count} {buffer₀} {buffer} given left header s l g q e f =
     let j : i ≡ h = omega (arith, s .high) in
@@ -123,10 +123,16 @@ plan-end {n} {T} {ws} {query} {h} {ends} {i = i} {first} {count} {buffer₀} {bu
     let m : 13 + 13 * count + length (encode (End count)) ≡ 19 + 13 * h = omega (arith, length-encode (End count)) in
     let k : length header ≡ 13 = ap length q ∙ encode-core-length (ascii "PH") refl (record { order = n; first = T; last = h; members = query }) in
     let head : take 13 buffer₀ ≡ header = rw k at (ap (take (0 + length header)) e ∙ take-place 0 header given (omega arith)) in
-    record {
-      bytes =
-          ap₂ (λ (x : ℕ) (y : List ℕ). take x y) (sym m) f
-          ∙ take-place (13 + 13 * count) (encode (End count)) buffer (omega (arith, s .asked .room))
-          ∙ ap₂ _++_ (a .bytes ∙ ap (λ (x : List ℕ). x ++ encodeCores (ascii "PT") (partsFrom n ws query 0 (take h ends))) (head ∙ q)) (ap (λ (x : ℕ). encode (End x)) c)
-          ∙ append-assoc (ascii "PH" ++ (n ∷ T ∷ h ∷ littleEndian 8 query)) (encodeCores (ascii "PT") (partsFrom n ws query 0 (take h ends))) (encode (End h));
-    }
+    let front : take (19 + 13 * h) left ≡ planBytes n T h query (partsFrom n ws query 0 (take h ends)) =
+    ap₂ (λ (x : ℕ) (y : List ℕ). take x y) (sym m) f
+    ∙ take-place (13 + 13 * count) (encode (End count)) buffer (omega (arith, s .asked .room))
+    ∙ ap₂ _++_ (a .bytes ∙ ap (λ (x : List ℕ). x ++ encodeCores (ascii "PT") (partsFrom n ws query 0 (take h ends))) (head ∙ q)) (ap (λ (x : ℕ). encode (End x)) c)
+    ∙ append-assoc (ascii "PH" ++ (n ∷ T ∷ h ∷ littleEndian 8 query)) (encodeCores (ascii "PT") (partsFrom n ws query 0 (take h ends))) (encode (End h)) in
+    let laid : drop 13 buffer₀ ≡ drop 13 given = rw k at (ap (drop (0 + length header)) e ∙ drop-place 0 header given (omega arith)) in
+    let back : drop (19 + 13 * h) left ≡ drop (19 + 13 * h) given =
+    ap₂ (λ (x : ℕ) (y : List ℕ). drop x y) (sym m) f
+    ∙ drop-place (13 + 13 * count) (encode (End count)) buffer (omega (arith, s .asked .room))
+    ∙ ap (λ (x : ℕ). drop x buffer) m
+    ∙ further (13 + 13 * count) (19 + 13 * h) buffer buffer₀ (omega arith) (a .rest)
+    ∙ further 13 (19 + 13 * h) buffer₀ given (omega arith) laid in
+    record { bytes = sym (take-append-drop (19 + 13 * h) left) ∙ ap₂ _++_ front back }

@@ -1,26 +1,28 @@
 -- Laws of the call plan: how it is judged, and that the ends found from a table of the scores are the plan's.
-use mathlib.Core.Path.{_≡_, ap, _∙_}
+use mathlib.Core.Path.{_≡_, refl, sym, ap, _∙_}
 use mathlib.Core.Bool.{true, false}
-use mathlib.Core.List.{List}
-use Prim.Native.Nat.{ℕ, _≤_}
+use mathlib.Core.List.{List, _++_}
+use Prim.Native.Nat.{ℕ, _+_, _*_, _≤_, _<_}
 use native.Mathlib.Omega.{arith}
 use lib.Dec.{leb}
-use lib.ListN.{take}
+use lib.ListN.{length, take, drop}
 use borrow.Author.Tests.{le-leb, leb-true}
 use Rattle.sets.specs.Bools.{_and_, isnt}
 use Rattle.sets.specs.Sets.{isSub, full}
 use Rattle.sets.proofs.Bools.{and-in, and-left, and-right, to-false}
 use Rattle.records.specs.Limits.{maxTicks}
-use Rattle.records.specs.Outcomes.{refused, success, refuseIf}
+use Rattle.records.specs.Outcomes.{Outcome, refused, success, refuseIf}
 use Rattle.days.specs.Calls.{checkOf}
 use Rattle.log.specs.Buffers.{deliver}
-use Rattle.log.proofs.Delivering.{deliver-refused, deliver-passed}
+use Rattle.log.proofs.Delivering.{deliver-refused, deliver-passed, deliver-short, deliver-fits}
 use Rattle.cuts.specs.Cuttings.{Cutting}
 use Rattle.cuts.specs.Sums.{bestEnds, tableScore, endsOf}
 use Rattle.cuts.proofs.Sums.{best-ends, ends-same}
 use Rattle.cuts.proofs.EndsOf.{ends-of}
 use Rattle.spans.specs.Plans.{scoreOn, partsFrom, partsOf, isQuery, isParts}
 use Rattle.spans.specs.Encoding.{planBytes}
+use Rattle.spans.proofs.MostGroups.{plan-length}
+use Rattle.spans.proofs.PlanParts.{parts-length}
 use Rattle.groups.specs.Scoring.{Scores}
 use Rattle.groups.specs.Calls.{planJudged, planOf}
 
@@ -52,6 +54,27 @@ module _ (n T : ℕ) (ws : List ℕ) (query h : ℕ) where
 pub record PlanEnds (n T : ℕ) (ws : List ℕ) (query h : ℕ) (ends : List ℕ) : Type 0 where
   pub cutting : Cutting T h (take h ends)
   pub parts : partsFrom n ws query 0 (take h ends) ≡ partsOf n T ws query h
+
+-- a plan that was asked for has the length that h says
+module _ (n T : ℕ) (ws : List ℕ) (query h : ℕ) (q : isSub query (full n) ≡ true) (l : 1 ≤ h) (m : h ≤ T) (buffer : List ℕ) where
+  planned : List ℕ
+  planned = planBytes n T h query (partsOf n T ws query h)
+
+  planned-size : length planned ≡ 19 + 13 * h
+  unfolding planned partsOf
+  planned-size = plan-length n T h query (partsOf n T ws query h) (parts-length n ws query 0 (bestEnds (scoreOn n ws query) T h) ∙ best-ends (scoreOn n ws query) T h l m .best .cutting .count)
+
+  -- a buffer that is shorter gets 9,
+  pub planned-short : length buffer < 19 + 13 * h → (refused 9 0 ≡ deliver (planJudged n T ws query h) buffer .answer) × (buffer ≡ deliver (planJudged n T ws query h) buffer .buffer)
+  unfolding planned
+  planned-short s = let d = ap (λ (o : Outcome (List ℕ)). deliver o buffer) (judged-plan n T ws query h q l m) ∙ deliver-short planned buffer (omega (arith, planned-size)) in (rw d refl, rw d refl)
+
+  -- and one that holds the plan has it in front
+  pub planned-fits : {left : List ℕ} → 19 + 13 * h ≤ length buffer → left ≡ planBytes n T h query (partsOf n T ws query h) ++ drop (19 + 13 * h) buffer
+      → (success (19 + 13 * h) ≡ deliver (planJudged n T ws query h) buffer .answer) × (left ≡ deliver (planJudged n T ws query h) buffer .buffer)
+  unfolding planned
+  planned-fits s e = let d = ap (λ (o : Outcome (List ℕ)). deliver o buffer) (judged-plan n T ws query h q l m) ∙ deliver-fits planned buffer (omega (arith, planned-size)) in
+      (rw d (ap (λ (x : ℕ). success x) (sym planned-size)), rw d (e ∙ ap (λ (x : ℕ). planned ++ drop x buffer) (sym planned-size)))
 
 -- those found from a table of the scores are such
 pub table-ends : {n T : ℕ} {ws : List ℕ} {query h : ℕ} {scores : List ℕ} (ends : List ℕ) → Scores n T ws query T scores → 1 ≤ h → h ≤ T → T ≤ maxTicks → ends ≡ endsOf scores T h

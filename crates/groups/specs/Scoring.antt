@@ -1,8 +1,8 @@
 -- What the functions that score the runs of a day and encode its plan promise.
-use mathlib.Core.List.{List}
+use mathlib.Core.List.{List, _++_}
 use mathlib.Core.Path.{_≡_}
 use Prim.Native.Nat.{ℕ, _+_, _*_, _≤_, _<_}
-use lib.ListN.{length, getD, take}
+use lib.ListN.{length, getD, take, drop}
 use Rattle.records.specs.Limits.{maxTicks}
 use Rattle.days.specs.Days.{LentDay}
 use Rattle.cuts.specs.Cuttings.{Cutting}
@@ -36,6 +36,6 @@ pub record PlanParts (n T : ℕ) (ws : List ℕ) (query h : ℕ) (ends scores bu
   pub ends-size : length ends ≡ maxTicks
   pub room : 19 + 13 * h ≤ length buffer
 
--- the plan in the first bytes of a buffer
-pub record EncodesPlan (n T : ℕ) (ws : List ℕ) (query h : ℕ) (ends buffer : List ℕ) : Type 0 where
-  pub bytes : take (19 + 13 * h) buffer ≡ planBytes n T h query (partsFrom n ws query 0 (take h ends))
+-- The plan is laid over the first bytes of a buffer, and the bytes after it are as they were.
+pub record EncodesPlan (n T : ℕ) (ws : List ℕ) (query h : ℕ) (ends buffer buffer′ : List ℕ) : Type 0 where
+  pub bytes : buffer′ ≡ planBytes n T h query (partsFrom n ws query 0 (take h ends)) ++ drop (19 + 13 * h) buffer

@@ -15,7 +15,6 @@ ghost use Rattle.groups.specs.Scoring.{PlanParts, EncodesPlan};
 ghost use Rattle.groups.specs.Calls.{planJudged, planOf};
 ghost use Rattle.groups.specs.ShiftPlans.{PlanShown};
 use crate::answer::Written;
-use crate::answer::delivered;
 use crate::day::Size;
 use crate::day::Span;
 use crate::encoding::Shown;
@@ -80,7 +79,7 @@ fn encode_plan(
     buffer: &mut [u8],
 )
     requires { ⌜ PlanParts (day .badges) (day .ticks) (now words) (members query) parts (now ends) (now scores) (now buffer) ⌝ }
-    ensures { λ _. ⌜ EncodesPlan (day .badges) (day .ticks) (now (words .entry)) (members query) parts (now (ends .entry)) (now (buffer .exit)) ⌝ }
+    ensures { λ _. ⌜ EncodesPlan (day .badges) (day .ticks) (now (words .entry)) (members query) parts (now (ends .entry)) (now (buffer .entry)) (now (buffer .exit)) ⌝ }
 {
     let header = Shown {
         order: day.badges as u8,
@@ -115,7 +114,7 @@ fn encode_plan(
     );
 }
 
-// Plans a day whose words have passed: judged by 13, 14 and 9.
+// Plans a day whose words have passed: judged by 13, 14 and 9. The number of parts says how long the plan is, so it is made in the buffer that is lent.
 fn plan_day(
     words: &[u64],
     badges: usize,
@@ -137,13 +136,16 @@ fn plan_day(
     if ticks < parts {
         return Written::Refused(Refusal::InvalidParts);
     }
+    let size = 19 + 13 * parts;
+    if buffer.len() < size {
+        return Written::Refused(Refusal::Log(log::Refusal::BufferTooShort));
+    }
     let mut scores = [0u8; 9216];
     let day = Size { badges, ticks };
     fill_scores(words, day, query, &mut scores);
     let ends = cuts::best_ends(&scores, ticks, parts);
-    let mut bytes = [0u8; 1267];
-    encode_plan(words, day, query, parts, &ends, &scores, &mut bytes);
-    delivered(log::deliver(&bytes[..19 + 13 * parts], buffer))
+    encode_plan(words, day, query, parts, &ends, &scores, buffer);
+    Written::Bytes(size)
 }
 
 // Plans a shift around a query: cuts the day into parts runs with the greatest sum of scores, and of such cuttings the one whose list of last ticks

@@ -1,21 +1,15 @@
 -- What the promise of the plan comes to: the plan statement leaves no choice of the sum, and none of the ends; so a call that keeps the promise gives
 -- the first of the best cuttings, and succeeds in a buffer of the length that h fixes.
 use mathlib.Core.Path.{_≡_, refl, sym, ap, _∙_}
-use mathlib.Core.List.{List, _∷_, _++_}
+use mathlib.Core.List.{List}
 use mathlib.Core.Logic.{by-cases}
 use Prim.Native.Nat.{ℕ, _+_, _*_, _≤_}
 use native.Mathlib.Decide.{decLt}
 use native.Mathlib.Omega.{arith}
-use lib.ListN.{length, take, length-append}
-use Rattle.sets.specs.Ascii.{ascii}
+use lib.ListN.{length, take}
 use Rattle.sets.specs.Sets.{full}
-use Rattle.sets.specs.Bytes.{littleEndian}
-use Rattle.sets.proofs.Bytes.{length-little-endian}
-use Rattle.records.specs.declared.record.Record.the-variants.{End}
-use Rattle.records.specs.Records.{encode}
 use Rattle.records.specs.Outcomes.{success}
 use Rattle.records.proofs.Outcomes.{success-same}
-use Rattle.records.proofs.Records.{length-encode}
 use Rattle.log.specs.Buffers.{Delivered, deliver}
 use Rattle.log.proofs.Delivering.{deliver-short, deliver-fits, deliver-success}
 use Rattle.cuts.specs.Cuttings.{IsFirstBest}
@@ -24,9 +18,9 @@ use Rattle.cuts.proofs.FirstCuttings.{neither-before}
 use Rattle.cuts.proofs.Sums.{best-ends}
 use Rattle.spans.specs.SpanCores.{SpanCore}
 use Rattle.spans.specs.Plans.{scoreOn}
-use Rattle.spans.specs.Encoding.{encodeCores, planBytes, planRecords}
+use Rattle.spans.specs.Encoding.{planBytes, planRecords}
 use Rattle.spans.specs.PlanStatement.{Runs, none, run, sumOfOrders, partEnds, PlanStatement, PlanAsked}
-use Rattle.spans.proofs.Encoding.{encode-cores-length}
+use Rattle.spans.proofs.MostGroups.{plan-length}
 use Rattle.spans.proofs.PlanParts.{parts-stated, plan-ends}
 use Rattle.groups.specs.ShiftPlans.{PlansShifts}
 
@@ -44,17 +38,8 @@ runs-length : {T h t : ℕ} {ps : List SpanCore} → Runs T h t ps → length ps
 runs-length none = refl
 runs-length (run l r) = omega (arith, runs-length r)
 
-plan-length : {n T : ℕ} {ws : List ℕ} {base query h : ℕ} (ps : List SpanCore) → PlanStatement n T ws base query h ps → length (planBytes n T h query ps) ≡ 19 + 13 * h
-unfolding planBytes
-plan-length {n} {T} {ws} {base} {query} {h} ps s = omega (
-  arith,
-  runs-length (s .cutting .runs),
-  length-append (ascii "PH" ++ (n ∷ T ∷ h ∷ littleEndian 8 query)) (encodeCores (ascii "PT") ps ++ encode (End h)),
-  length-append (encodeCores (ascii "PT") ps) (encode (End h)),
-  length-little-endian 8 query,
-  encode-cores-length (ascii "PT") refl ps,
-  length-encode (End h),
-)
+stated-length : {n T : ℕ} {ws : List ℕ} {base query h : ℕ} (ps : List SpanCore) → PlanStatement n T ws base query h ps → length (planBytes n T h query ps) ≡ 19 + 13 * h
+stated-length {n} {T} {query = query} {h} ps s = plan-length n T h query ps (runs-length (s .cutting .runs))
 
 -- A call that keeps the promise:
 module _ (call : ℕ → ℕ → List ℕ → ℕ → ℕ → List ℕ → Delivered) (p : PlansShifts call) {n T : ℕ} {ws : List ℕ} {query h : ℕ} (buffer : List ℕ) (a : PlanAsked n T ws query h) where
@@ -77,7 +62,7 @@ module _ (call : ℕ → ℕ → List ℕ → ℕ → ℕ → List ℕ → Deliv
 
   -- it succeeds in a buffer of 19 + 13×h bytes or more, and h fixes the number of bytes;
   pub bytes-length : length bytes ≡ 19 + 13 * h
-  bytes-length = let s = p n T ws query h buffer a in plan-length (s .parts) (s .stated)
+  bytes-length = let s = p n T ws query h buffer a in stated-length (s .parts) (s .stated)
 
   pub plan-succeeds : 19 + 13 * h ≤ length buffer → call n T ws query h buffer .answer ≡ success (19 + 13 * h)
   plan-succeeds l = ap (λ (x : Delivered). x .answer) (p n T ws query h buffer a .succeeds (omega (arith, bytes-length))) ∙ ap success bytes-length

@@ -1,7 +1,7 @@
--- A day has at most T(T+1)/2 groups, one for each span: at most 4,656, so that 60,538 bytes hold any report.
+-- The lengths of reports and plans. A day has at most T(T+1)/2 groups, one for each span: at most 4,656, so that 60,538 bytes hold any report.
 use mathlib.Core.Path.{_≡_, refl}
 use mathlib.Core.Bool.{Bool, true, false}
-use mathlib.Core.List.{List, []}
+use mathlib.Core.List.{List, [], _∷_, _++_}
 use Prim.Native.Nat.{ℕ, zero, suc, _+_, _-_, _*_, _≤_, _<_}
 use native.Mathlib.Nat.{le-refl, mul-le-mul, mul-le-mul-left}
 use native.Mathlib.Omega.{arith}
@@ -9,7 +9,9 @@ use lib.Dec.{leb}
 use lib.ListN.{length, length-append}
 use borrow.Author.Tests.{leb-true, leb-false}
 use Rattle.sets.specs.Ascii.{ascii}
+use Rattle.sets.specs.Bytes.{littleEndian}
 use Rattle.sets.specs.Tables.{concatBelow, keepIf}
+use Rattle.sets.proofs.Bytes.{length-little-endian}
 use Rattle.sets.proofs.Concat.{keep-nil, keep-le, concat-from, concat-triangle}
 use Rattle.records.specs.declared.record.Record.the-variants.{End}
 use Rattle.records.specs.Limits.{maxTicks}
@@ -17,7 +19,7 @@ use Rattle.records.specs.Records.{encode}
 use Rattle.records.proofs.Records.{length-encode}
 use Rattle.spans.specs.SpanCores.{SpanCore}
 use Rattle.spans.specs.Reports.{groupsOn, groupsFrom, groupsOf}
-use Rattle.spans.specs.Encoding.{spanCount, maxGroups, maxReportBytes, encodeCores, reportBytes}
+use Rattle.spans.specs.Encoding.{spanCount, maxGroups, maxReportBytes, encodeCores, reportBytes, planBytes}
 use Rattle.spans.proofs.Maximal.{groups-on}
 use Rattle.spans.proofs.Encoding.{encode-cores-length}
 
@@ -26,6 +28,18 @@ pub report-length : (n T : ℕ) (groups : List SpanCore) → length (reportBytes
 unfolding reportBytes
 report-length n T groups =
     omega (arith, length-append (encodeCores (ascii "GR") groups) (encode (End (length groups))), encode-cores-length (ascii "GR") refl groups, length-encode (End (length groups)))
+
+-- a plan has 19 bytes and 13 for each part
+pub plan-length : (n T h query : ℕ) (parts : List SpanCore) → length parts ≡ h → length (planBytes n T h query parts) ≡ 19 + 13 * h
+unfolding planBytes
+plan-length n T h query parts e = omega (
+  arith,
+  length-append (ascii "PH" ++ (n ∷ T ∷ h ∷ littleEndian 8 query)) (encodeCores (ascii "PT") parts ++ encode (End h)),
+  length-append (encodeCores (ascii "PT") parts) (encode (End h)),
+  length-little-endian 8 query,
+  encode-cores-length (ascii "PT") refl parts,
+  length-encode (End h),
+)
 
 -- no day has more spans than one of 96 ticks
 pub spans-few : {T : ℕ} → T ≤ maxTicks → spanCount T ≤ maxGroups

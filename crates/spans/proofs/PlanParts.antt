@@ -108,7 +108,7 @@ sum-le f (run {p = p} {ps = ps} l r) k = omega (arith, k p (List·Memᴰ·head r
 -- the parts that a list of ends cuts: as many as the ends, each the part of its run, with members that fit a set; their orders' sum is that of
 -- the scores; those of a list with c cuts are c + 1 runs
 module _ (n : ℕ) (ws : List ℕ) (query : ℕ) where
-  parts-length : (t : ℕ) (ends : List ℕ) → length (partsFrom n ws query t ends) ≡ length ends
+  pub parts-length : (t : ℕ) (ends : List ℕ) → length (partsFrom n ws query t ends) ≡ length ends
   unfolding partsFrom
   parts-length t [] = refl
   parts-length t (e ∷ es) = ap suc (parts-length (suc e) es)
