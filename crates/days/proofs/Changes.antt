@@ -1,33 +1,22 @@
--- Laws of the rows of a tick and of what changes from tick to tick: the loops that fill both; and a tick after one of a day is one of a day exactly
--- when its changes are those of a tick.
+-- Laws of what changes from tick to tick: rows with these put over them; and a tick after one of a day is one of a day exactly when its changes are
+-- those of a tick.
 use mathlib.Core.Path.{_≡_, refl, sym, ap, ap₂, _∙_}
 use mathlib.Core.List.{List}
 use mathlib.Core.Logic.{_⊎_, inl, inr}
-use Prim.Native.Nat.{ℕ, zero, suc, _+_, _-_, _*_, _≤_, _<_, min}
+use Prim.Native.Nat.{ℕ, zero, suc, _+_, _-_, _*_, _≤_, _<_}
 use native.Mathlib.Nat.{suc-mul}
 use native.Mathlib.Omega.{arith}
 use lib.Bits.{xor-lt, xor-zero-r}
 use lib.Pow.{pow-pos}
-use lib.ListN.{length, getD, take, drop, List·getD-eq-default}
-use Rattle.sets.specs.Sets.{In, symmetricDifference}
+use lib.ListN.{length, getD, take, drop, length-take, length-drop}
+use Rattle.sets.specs.Sets.{In, symmetricDifference, full}
 use Rattle.sets.specs.Members.{capacity}
-use Rattle.sets.proofs.Sets.{not-in-none, in-symmetric-left, in-symmetric-right, of-symmetric, symmetric-twice}
-use Rattle.sets.proofs.Tables.{tabulate-at, front, front-done}
-use Rattle.days.specs.Days.{neighbours, tickRows, IsTick}
-use Rattle.days.specs.Changes.{neighboursBefore, change, differences, Changes}
+use Rattle.sets.specs.Tables.{tabulate, piecewise}
+use Rattle.sets.proofs.Sets.{not-in-none, in-full, in-symmetric-left, in-symmetric-right, of-symmetric, symmetric-twice}
+use Rattle.sets.proofs.Tables.{tabulate-at, piecewise-in}
+use Rattle.days.specs.Days.{neighbours, tickOver, IsTick}
+use Rattle.days.specs.Changes.{neighboursBefore, change, differencesOver, Changes}
 use Rattle.days.proofs.Days.{neighbours-part, tick-same}
-
--- filled as far as there are words, the rows are those of the tick
-pub rows-filled : (tick : List ℕ) {out : List ℕ} {u : ℕ} → u ≡ min capacity (length tick) → out ≡ front capacity (λ k. getD tick k 0) u → out ≡ tickRows tick
-unfolding tickRows
-rows-filled tick e o = front-done capacity _ (omega arith) (λ k l r. List·getD-eq-default tick 0 (omega arith)) o
-
--- and the differences those of the two ticks
-pub differences-filled : (tick before : List ℕ) {out : List ℕ} {u : ℕ} → u ≤ capacity → length tick ≡ u → length before ≡ u
-    → out ≡ front capacity (λ k. symmetricDifference (getD tick k 0) (getD before k 0)) u → out ≡ differences tick before
-unfolding differences symmetricDifference
-differences-filled tick before l e f o =
-    front-done capacity _ l (λ k p q. ap₂ symmetricDifference (List·getD-eq-default tick 0 (omega arith)) (List·getD-eq-default before 0 (omega arith))) o
 
 -- the words of a tick but the first have those of the tick before in front of them
 pub words-before : (n t : ℕ) → (t ≡ 0 → ⊥) → n ≤ t * n
@@ -38,23 +27,29 @@ words-before n (suc t) f = rw suc-mul (omega arith)
 abbrev part : ℕ → ℕ → List ℕ → List ℕ
 part from to ws = take (to - from) (drop from ws)
 
--- the changes of tick 0 are its rows, and those of a later tick its differences from the tick before
-module _ (n : ℕ) (ws : List ℕ) (t : ℕ) (few : n ≤ capacity) where
-  pub changes-first : {rows : List ℕ} → t ≡ 0 → rows ≡ tickRows (part (t * n) (t * n + n) ws) → Changes n ws t rows
-  unfolding tickRows change neighboursBefore symmetricDifference
-  changes-first z e = record {
-    at = λ u l.
-        ap (λ (x : List ℕ). getD x u 0) e ∙ tabulate-at capacity _ u (omega arith)
-        ∙ neighbours-part n ws t _ u (let k : u < t * n + n - t * n = omega arith in k) ∙ rw z (sym (xor-zero-r (neighbours n ws 0 u)));
-  }
+-- Rows with the words of tick 0 over them have the changes of tick 0, and rows with a later tick's differences from the tick before over them have
+-- those of that tick.
+module _ (n : ℕ) (ws : List ℕ) (t : ℕ) (few : n ≤ capacity) (whole : t * n + n ≤ length ws) where
+  -- the words of the tick, and the word of a badge there
+  abbrev tick : List ℕ
+  tick = part (t * n) (t * n + n) ws
 
-  pub changes-next : {rows : List ℕ} → (t ≡ 0 → ⊥) → rows ≡ differences (part (t * n) (t * n + n) ws) (part (t * n - n) (t * n) ws) → Changes n ws t rows
-  unfolding differences change neighboursBefore
-  changes-next f e = record {
-    at = λ u l.
-        ap (λ (x : List ℕ). getD x u 0) e ∙ tabulate-at capacity _ u (omega arith)
-        ∙ ap₂ symmetricDifference (neighbours-part n ws t _ u (let k : u < t * n + n - t * n = omega arith in k)) (before t f u l);
-  }
+  at-tick : (u : ℕ) → u < n → getD tick u 0 ≡ neighbours n ws t u
+  at-tick u l = neighbours-part n ws t _ u (let k : u < t * n + n - t * n = omega arith in k)
+
+  -- the row of a badge below n is what is put there
+  put-at : (f g : ℕ → ℕ) {rows : List ℕ} (u : ℕ) → u < n → rows ≡ tabulate capacity (piecewise (full (length tick)) f g) → getD rows u 0 ≡ f u
+  put-at f g u l e =
+      let size : length tick ≡ n = simp (length-take, length-drop) (omega arith) in
+      ap (λ (x : List ℕ). getD x u 0) e ∙ tabulate-at capacity _ u (omega arith) ∙ piecewise-in _ f g u (in-full _ u (omega arith))
+
+  pub changes-first : (was : List ℕ) {rows : List ℕ} → t ≡ 0 → rows ≡ tickOver tick was → Changes n ws t rows
+  unfolding tickOver change neighboursBefore symmetricDifference
+  changes-first was z e = record { at = λ u l. put-at _ _ u l e ∙ at-tick u l ∙ rw z (sym (xor-zero-r (neighbours n ws 0 u))) }
+
+  pub changes-next : (was : List ℕ) {rows : List ℕ} → (t ≡ 0 → ⊥) → rows ≡ differencesOver tick (part (t * n - n) (t * n) ws) was → Changes n ws t rows
+  unfolding differencesOver change neighboursBefore
+  changes-next was f e = record { at = λ u l. put-at _ _ u l e ∙ ap₂ symmetricDifference (at-tick u l) (before t f u l) }
     where
       before : (t : ℕ) → (t ≡ 0 → ⊥) → (u : ℕ) → u < n → getD (part (t * n - n) (t * n) ws) u 0 ≡ neighboursBefore n ws t u
       before zero f u l = absurd (f refl)

@@ -2,10 +2,10 @@
 use mathlib.Core.Path.{_≡_}
 use mathlib.Core.List.{List}
 use Prim.Native.Nat.{ℕ, zero, suc, _<_}
-use lib.ListN.{getD}
-use Rattle.sets.specs.Sets.{symmetricDifference}
+use lib.ListN.{length, getD}
+use Rattle.sets.specs.Sets.{symmetricDifference, full}
 use Rattle.sets.specs.Members.{capacity}
-use Rattle.sets.specs.Tables.{tabulate}
+use Rattle.sets.specs.Tables.{tabulate, piecewise}
 use Rattle.days.specs.Days.{neighbours}
 
 -- the badges in contact with u in the tick before tick t; before tick 0 there is no contact
@@ -17,10 +17,11 @@ neighboursBefore n ws (suc t) u = neighbours n ws t u
 unfoldable pub change : ℕ → List ℕ → ℕ → ℕ → ℕ
 change n ws t u = symmetricDifference (neighbours n ws t u) (neighboursBefore n ws t u)
 
--- the differences of two ticks' words, badge by badge
-unfoldable pub differences : List ℕ → List ℕ → List ℕ
-differences tick before = tabulate capacity (λ u. symmetricDifference (getD tick u 0) (getD before u 0))
+-- the rows with the differences of two ticks' words over them, badge by badge: as many as the tick has, then those that were there
+unfoldable pub differencesOver : List ℕ → List ℕ → List ℕ → List ℕ
+differencesOver tick before rows =
+    tabulate capacity (piecewise (full (length tick)) (λ u. symmetricDifference (getD tick u 0) (getD before u 0)) (λ u. getD rows u 0))
 
--- rows that are the changes of tick t, one for each badge below n
+-- rows of which those of the badges below n are the changes of tick t
 pub record Changes (n : ℕ) (ws : List ℕ) (t : ℕ) (rows : List ℕ) : Type 0 where
   pub at : (u : ℕ) → u < n → getD rows u 0 ≡ change n ws t u

@@ -7,9 +7,9 @@ use Prim.Native.Nat.{ℕ, zero, suc, _+_, _*_, _^_, _≤_, _<_}
 use lib.Dec.{ltb}
 use lib.ListN.{length, getD}
 use Rattle.sets.specs.Bools.{_and_, _or_, isnt, all}
-use Rattle.sets.specs.Sets.{In, has, setOf}
+use Rattle.sets.specs.Sets.{In, has, full, setOf}
 use Rattle.sets.specs.Members.{capacity}
-use Rattle.sets.specs.Tables.{tabulate}
+use Rattle.sets.specs.Tables.{tabulate, piecewise}
 use Rattle.records.specs.declared.record.Record.{Record}
 use Rattle.records.specs.Limits.{withinLimits, wordsFor}
 use Rattle.records.specs.Meaning.{badgesOf, ticksOf, inContact}
@@ -26,9 +26,9 @@ adjacent n ws t u v = has (neighbours n ws t u) v
 unfoldable pub tickWords : ℕ → (ℕ → ℕ → Bool) → List ℕ
 tickWords n r = tabulate n (λ u. setOf n (r u))
 
--- the rows of one tick, a word for each badge that a set can hold: those that there are, then 0
-unfoldable pub tickRows : List ℕ → List ℕ
-tickRows tick = tabulate capacity (λ u. getD tick u 0)
+-- the rows with the words of one tick over them: the tick's, as far as there are, then those that were there
+unfoldable pub tickOver : List ℕ → List ℕ → List ℕ
+tickOver tick rows = tabulate capacity (piecewise (full (length tick)) (λ u. getD tick u 0) (λ u. getD rows u 0))
 
 -- the words of a day, tick by tick: r t u v says whether u and v are in contact in tick t
 unfoldable pub dayWords : ℕ → ℕ → (ℕ → ℕ → ℕ → Bool) → List ℕ

@@ -5,7 +5,7 @@ ghost use lib.ListN.{length};
 ghost use Rattle.records.specs.Limits.{maxBadges, wordsFor};
 ghost use Rattle.days.specs.Days.{isDay};
 ghost use Rattle.days.specs.Calls.{checkOf, checkedOutcome};
-use crate::comparing::changes;
+use crate::comparing::put_changes;
 use records::Refusal;
 use records::within_limits;
 use sets::BadgeSet;
@@ -25,8 +25,9 @@ fn is_day(words: &[u64], n: usize, ticks: usize) -> bool
 {
     let mut good = true;
     let badges = BadgeSet::full(n);
+    let mut changed = [0u64; 64];
     'scan: for t in 0..ticks {
-        let mut changed = changes(words, n, t);
+        put_changes(&mut changed, words, n, t);
         for u in 0..n {
             let mut unseen = BadgeSet::from_word(changed[u]);
             if unseen.is_empty() {

@@ -3,33 +3,33 @@ ghost use mathlib.Core.Path.{_≡_};
 ghost use Prim.Native.Nat.{_+_, _*_, _≤_};
 ghost use lib.ListN.{length};
 ghost use Rattle.records.specs.Limits.{maxBadges};
-ghost use Rattle.days.specs.Changes.{differences, Changes};
-use crate::rows::tick_rows;
+ghost use Rattle.days.specs.Changes.{differencesOver, Changes};
+use crate::rows::copy_tick;
 use sets::BadgeSet;
 
-// The differences of the words of two ticks of n badges, badge by badge.
-fn differences(tick: &[u64], before: &[u64], n: usize) -> [u64; 64]
+// Puts the differences of the words of two ticks of n badges, badge by badge, into the first n rows, through a slice as `copy_tick` does.
+fn put_differences(rows: &mut [u64; 64], tick: &[u64], before: &[u64], n: usize)
     requires { ⌜ (n ≤ maxBadges) × (length (now tick) ≡ n) × (length (now before) ≡ n) ⌝ }
-    ensures { λ r. ⌜ r ≡ differences (now (tick .entry)) (now (before .entry)) ⌝ }
+    ensures { λ _. ⌜ now (rows .exit) ≡ differencesOver (now (tick .entry)) (now (before .entry)) (now (rows .entry)) ⌝ }
 {
-    let mut out = [0u64; 64];
+    let all = &mut rows[..];
     for u in 0..n {
         let current = BadgeSet::from_word(tick[u]);
         let earlier = BadgeSet::from_word(before[u]);
-        out[u] = current.symmetric_difference(earlier).to_word();
+        all[u] = current.symmetric_difference(earlier).to_word();
     }
-    out
 }
 
-// The changes of a tick from the tick before it, from each badge's side. In tick 0 these are its contacts.
-pub(crate) fn changes(words: &[u64], n: usize, t: usize) -> [u64; 64]
+// Puts the changes of a tick from the tick before it, from each badge's side, into the first n rows. In tick 0 these are its contacts.
+pub(crate) fn put_changes(rows: &mut [u64; 64], words: &[u64], n: usize, t: usize)
     requires { ⌜ (n ≤ maxBadges) × (t * n + n ≤ length (now words)) ⌝ }
-    ensures { λ r. ⌜ Changes n (now (words .entry)) t r ⌝ }
+    ensures { λ _. ⌜ Changes n (now (words .entry)) t (now (rows .exit)) ⌝ }
 {
     let base = t * n;
     let tick = &words[base..base + n];
     if t == 0 {
-        return tick_rows(tick);
+        copy_tick(rows, tick);
+        return;
     }
-    differences(tick, &words[base - n..base], n)
+    put_differences(rows, tick, &words[base - n..base], n);
 }

@@ -2,7 +2,7 @@
 ghost use mathlib.Core.Path.{_≡_};
 ghost use Prim.Native.Nat.{min};
 ghost use lib.ListN.{length};
-ghost use Rattle.days.specs.Days.{tickRows};
+ghost use Rattle.days.specs.Days.{tickOver};
 
 // The smaller of a tick's number of words and 64.
 fn row_count(tick: &[u64]) -> usize
@@ -11,13 +11,13 @@ fn row_count(tick: &[u64]) -> usize
     if tick.len() < 64 { tick.len() } else { 64 }
 }
 
-// The rows of one tick: its first 64 words, with 0 for those that it does not have.
-pub fn tick_rows(tick: &[u64]) -> [u64; 64]
-    ensures { λ r. ⌜ r ≡ tickRows (now (tick .entry)) ⌝ }
+// Copies the words of one tick over the rows: its first 64, and where it has fewer, the other rows stay. The rows are written through a slice of them
+// all, since of a slice made from an array it is known how many elements it has.
+pub fn copy_tick(rows: &mut [u64; 64], tick: &[u64])
+    ensures { λ _. ⌜ now (rows .exit) ≡ tickOver (now (tick .entry)) (now (rows .entry)) ⌝ }
 {
-    let mut out = [0u64; 64];
+    let all = &mut rows[..];
     for u in 0..row_count(tick) {
-        out[u] = tick[u];
+        all[u] = tick[u];
     }
-    out
 }

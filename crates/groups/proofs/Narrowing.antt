@@ -1,56 +1,31 @@
 -- Laws of the loops that work out a span's rows, narrowed tick by tick.
-use mathlib.Core.Path.{_≡_, refl, sym, ap, _∙_}
+use mathlib.Core.Path.{_≡_, refl, ap, ap₂, _∙_}
 use mathlib.Core.List.{List}
-use mathlib.Core.Logic.{by-cases}
-use Prim.Native.Nat.{ℕ, suc, _+_, _-_, _*_, _≤_, _<_}
+use Prim.Native.Nat.{ℕ, suc, _+_, _-_, _*_, _≤_, _<_, min}
 use native.Mathlib.Nat.{le-refl, suc-mul}
 use native.Mathlib.Numerals.{add-one}
-use native.Mathlib.Decide.{ℕ-discrete}
 use native.Mathlib.Omega.{arith}
-use lib.ListN.{length, getD, set, take, drop, length-set, length-drop}
-use lib.Seq.{length-take-le, getD-set-same, getD-set-other}
-use Rattle.sets.specs.Sets.{intersection, full}
+use lib.ListN.{length, getD, take, drop, replicate, length-drop}
+use lib.Seq.{length-take-le}
+use Rattle.sets.specs.Sets.{intersection}
 use Rattle.sets.specs.Members.{capacity}
-use Rattle.sets.specs.Tables.{tabulate, piecewise}
-use Rattle.sets.proofs.Sets.{in-full, of-full}
-use Rattle.sets.proofs.Tables.{tabulate-length, tabulate-at, tabulate-is, piecewise-in, piecewise-out, piecewise-same}
+use Rattle.sets.proofs.Tables.{replaced, replaced-done}
 use Rattle.records.proofs.WithinLimits.{limits-of}
-use Rattle.days.specs.Days.{tickRows}
+use Rattle.days.specs.Days.{tickOver}
 use Rattle.days.proofs.Days.{tick-fits}
+use Rattle.days.proofs.TickRows.{over-zeros}
 use Rattle.spans.specs.Spans.{SpanOfDay, spanRows}
 use Rattle.spans.proofs.SpanRows.{span-length}
 use Rattle.groups.specs.Steps.{tickOf, NextTick, Narrows, RowsTo}
 use Rattle.groups.proofs.TickRows.{tick-span, narrowed, narrow-span}
 
--- Rows that are narrowed in place, row by row: at the start, after one row more, and where the tick ends.
-module _ (rows tick : List ℕ) where
-  abbrev cut : ℕ → ℕ
-  cut k = intersection (getD rows k 0) (getD tick k 0)
+-- Rows that are narrowed in place, the first u of them.
+abbrev pub narrowing : List ℕ → List ℕ → ℕ → List ℕ
+narrowing rows tick = replaced capacity (λ k row. intersection row (getD tick k 0)) rows
 
-  abbrev pub narrowing : ℕ → List ℕ
-  narrowing u = tabulate capacity (piecewise (full u) cut (λ k. getD rows k 0))
-
-  pub narrow-none : length rows ≡ capacity → rows ≡ narrowing 0
-  narrow-none e = tabulate-is capacity rows _ e (λ i l. sym (piecewise-out (full 0) cut _ i (λ j. omega (arith, of-full 0 i j))))
-
-  pub narrow-more : {out : List ℕ} (u : ℕ) → u < capacity → out ≡ narrowing u → set out u (intersection (getD out u 0) (getD tick u 0)) ≡ narrowing (u + 1)
-  narrow-more {out} u l o = tabulate-is capacity _ _ (length-set out u _ ∙ long) (λ i k. by-cases (ℕ-discrete i u)
-      (λ e. rw e (getD-set-same out u _ 0 (omega (arith, long)) ∙ ap (λ (x : ℕ). intersection x (getD tick u 0)) here ∙ sym (piecewise-in (full (u + 1)) cut _ u (in-full (u + 1) u (omega arith)))))
-      (λ e. getD-set-other out u i _ 0 e ∙ at i k
-      ∙ piecewise-same (full u) (full (u + 1)) cut _ i (λ j. in-full (u + 1) i (omega (arith, of-full u i j))) (λ j. in-full u i (omega (arith, of-full (u + 1) i j)))))
-    where
-      long : length out ≡ capacity
-      long = ap length o ∙ tabulate-length capacity _
-
-      at : (i : ℕ) → i < capacity → getD out i 0 ≡ piecewise (full u) cut (λ k. getD rows k 0) i
-      at i k = ap (λ (x : List ℕ). getD x i 0) o ∙ tabulate-at capacity _ i k
-
-      here : getD out u 0 ≡ getD rows u 0
-      here = at u l ∙ piecewise-out (full u) cut _ u (λ j. omega (arith, of-full u u j))
-
-  pub narrow-done : {out : List ℕ} {u : ℕ} → u ≡ length tick → out ≡ narrowing u → out ≡ narrowed rows tick
-  unfolding narrowed
-  narrow-done e o = rw e at o
+pub narrow-done : (rows tick : List ℕ) {out : List ℕ} {u : ℕ} → u ≡ min capacity (length tick) → out ≡ narrowing rows tick u → out ≡ narrowed rows tick
+unfolding narrowed
+narrow-done rows tick e o = replaced-done capacity _ _ (length tick) e o
 
 -- what a step is given: as many rows as a set holds badges, and no more words
 pub step-rows : {rows tick : List ℕ} → NextTick rows tick → length rows ≡ capacity
@@ -89,8 +64,9 @@ module _ {n T : ℕ} {ws : List ℕ} {first last : ℕ} (d : SpanOfDay n T ws fi
   few = limits-of (d .lent .limits) .few
 
   -- the rows of the first tick are those of its span
-  pub first-tick : {rows : List ℕ} → rows ≡ tickRows (take (first * n + n - first * n) (drop (first * n) ws)) → rows ≡ spanRows n ws first first
-  first-tick e = e ∙ ap tickRows (slice-tick n ws first refl) ∙ tick-span n T ws first (d .lent .day) (omega (arith, d .rising, d .inside))
+  pub first-tick : {given rows : List ℕ} → given ≡ replicate capacity 0 → rows ≡ tickOver (take (first * n + n - first * n) (drop (first * n) ws)) given → rows ≡ spanRows n ws first first
+  first-tick z e =
+      e ∙ ap₂ tickOver (slice-tick n ws first refl) z ∙ over-zeros (tickOf n ws first) ∙ tick-span n T ws first (d .lent .day) (omega (arith, d .rising, d .inside))
 
   -- and a longer span starts with them
   pub first-of : {rows : List ℕ} → rows ≡ spanRows n ws first first → RowsTo n ws first last rows first

@@ -13,7 +13,7 @@ use Rattle.sets.specs.Members.{capacity}
 use Rattle.sets.specs.Tables.{tabulate, piecewise}
 use Rattle.sets.proofs.Sets.{in-intersection, of-intersection-left, of-intersection-right, in-lt, in-full, of-full, ext}
 use Rattle.sets.proofs.Tables.{tabulate-same, piecewise-in, piecewise-out}
-use Rattle.days.specs.Days.{neighbours, tickRows, IsDay}
+use Rattle.days.specs.Days.{neighbours, IsDay}
 use Rattle.days.proofs.Days.{neighbours-part}
 use Rattle.spans.specs.Spans.{spanNeighbours, spanRows}
 use Rattle.spans.proofs.SpanRows.{in-span, of-span, span-row, span-row-none}
@@ -39,8 +39,7 @@ unfolding tickOf
 tick-past n ws t u l = List·getD-eq-default (take n (drop (t * n) ws)) 0 (omega (arith, length-take n (drop (t * n) ws)))
 
 -- the rows of one tick of a day are those of the span of this tick alone
-pub tick-span : (n T : ℕ) (ws : List ℕ) (t : ℕ) → IsDay n T ws → t < T → tickRows (tickOf n ws t) ≡ spanRows n ws t t
-unfolding tickRows
+pub tick-span : (n T : ℕ) (ws : List ℕ) (t : ℕ) → IsDay n T ws → t < T → tabulate capacity (λ u. getD (tickOf n ws t) u 0) ≡ spanRows n ws t t
 tick-span n T ws t d l = rows-are n ws t t _ (λ u k. tick-at n ws t u k ∙ ext _ _ (there u k) (back u)) (tick-past n ws t)
   where
     there : (u : ℕ) → u < n → (v : ℕ) → In (neighbours n ws t u) v → In (spanNeighbours n ws t t u) v

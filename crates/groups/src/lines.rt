@@ -28,7 +28,8 @@ pub(crate) fn find_line(
     requires { ⌜ LentDay (day .badges) (day .ticks) (now words) × (first < day .ticks) × ScoresBefore (day .badges) (day .ticks) (now words) (members query) first (now orders) × (length (now cores) ≡ maxTicks) ⌝ }
     ensures { λ _. ⌜ LineFound (day .badges) (day .ticks) (now (words .entry)) (members query) first (now (orders .entry)) (now (orders .exit)) (now (cores .exit)) ⌝ }
 {
-    let mut rows = first_rows(words, day, first);
+    let mut rows = [0u64; 64];
+    first_rows(&mut rows, words, day, first);
     let mut reached = first;
     let mut upper: u8 = 64;
     for last in first..day.ticks {

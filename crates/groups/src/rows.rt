@@ -1,11 +1,12 @@
 // The rows of a span: for each badge, those in contact with it in every tick.
 ghost use mathlib.Core.Path.{_≡_};
-ghost use Rattle.sets.specs.Members.{members};
+ghost use lib.ListN.{replicate};
+ghost use Rattle.sets.specs.Members.{capacity, members};
 ghost use Rattle.spans.specs.Spans.{spanRows, SpanOfDay};
 ghost use Rattle.groups.specs.Steps.{NextTick, Narrows, RowsTo, Unites};
 use crate::day::Size;
 use crate::day::Span;
-use days::tick_rows;
+use days::copy_tick;
 use sets::BadgeSet;
 
 // Narrows the rows of a span by the tick after it: of the neighbours of each badge that the tick has, those stay that are in contact with it in that
@@ -51,14 +52,14 @@ pub(crate) fn united(rows: &[u64]) -> BadgeSet
     BadgeSet::from_word(all)
 }
 
-// The rows of the span of one tick.
-pub(crate) fn first_rows(words: &[u64], day: Size, first: usize) -> [u64; 64]
-    requires { ⌜ SpanOfDay (day .badges) (day .ticks) (now words) first first ⌝ }
-    ensures { λ r. ⌜ r ≡ spanRows (day .badges) (now (words .entry)) first first ⌝ }
+// Puts the rows of the span of one tick into an array of empty rows.
+pub(crate) fn first_rows(rows: &mut [u64; 64], words: &[u64], day: Size, first: usize)
+    requires { ⌜ SpanOfDay (day .badges) (day .ticks) (now words) first first × (now rows ≡ replicate capacity 0) ⌝ }
+    ensures { λ _. ⌜ now (rows .exit) ≡ spanRows (day .badges) (now (words .entry)) first first ⌝ }
 {
     let n = day.badges;
     let at = first * n;
-    tick_rows(&words[at..at + n])
+    copy_tick(rows, &words[at..at + n]);
 }
 
 // The rows of a span: those of its first tick, narrowed by the others.
@@ -66,7 +67,8 @@ pub(crate) fn span_rows(words: &[u64], day: Size, span: Span) -> [u64; 64]
     requires { ⌜ SpanOfDay (day .badges) (day .ticks) (now words) (span .first) (span .last) ⌝ }
     ensures { λ r. ⌜ r ≡ spanRows (day .badges) (now (words .entry)) (span .first) (span .last) ⌝ }
 {
-    let mut rows = first_rows(words, day, span.first);
+    let mut rows = [0u64; 64];
+    first_rows(&mut rows, words, day, span.first);
     narrow_to(&mut rows, words, day, span.first, span.first, span.last);
     rows
 }

@@ -28,7 +28,7 @@ module _ {s p t m : ℕ} {ps : List ℕ} (h : Leads s ps t m) where
   leads-zero : intersection t p ≡ 0 → Leads s (p ∷ ps) t (2 * m)
   unfolding lane
   leads-zero z = record {
-    each = λ v i. by-cases (ℕ-discrete (lane ps v) m) (λ e. omega (arith, e, low v (h .has v i e))) (λ e. omega (arith, h .each v i, bit-lt p v, apart e));
+    each = λ v i. by-cases (ℕ-discrete (lane ps v) m) (λ e. omega (arith, e, low v (h .has v i e))) (λ e. omega (arith, h .each v i, bit-lt p v, e));
     of = λ v i. let x = h .of v i in (x .0, omega (arith, x .1, low v i));
     has = λ v i e. h .has v i (omega (arith, bit-lt p v, e));
     some = h .some;
@@ -37,9 +37,6 @@ module _ {s p t m : ℕ} {ps : List ℕ} (h : Leads s ps t m) where
     where
       low : (v : ℕ) → In t v → bit p v ≡ 0
       low v i = by-cases (ℕ-discrete (bit p v) 1) (λ j. absurd (not-in-none v (rw z at (in-intersection t p v i j)))) (λ j. omega (arith, bit-lt p v, j))
-
-      apart : {a b : ℕ} → (a ≡ b → ⊥) → a ≡ b → ⊥
-      apart f = f
 
   -- some have
   leads-one : (intersection t p ≡ 0 → ⊥) → Leads s (p ∷ ps) (intersection t p) (2 * m + 1)

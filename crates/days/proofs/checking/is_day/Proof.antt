@@ -25,36 +25,36 @@ use Rattle.days.proofs.checking.is_day.Statement.{statement}
 use Rattle.days.proofs.checking.is_day.Tie as tie
 
 abbrev Inv-loop2 : tie.InvT-loop2
-Inv-loop2 words n ticks good₀ badges t changed₀ u unseen₀ good changed unseen = (good ≡ true) × Walked n (change n words t) u changed (members unseen)
+Inv-loop2 words n ticks good₀ badges changed₀ t u unseen₀ good changed unseen = (good ≡ true) × Walked n (change n words t) u changed (members unseen)
 
 abbrev μ-loop2 : tie.MeasureT-loop2
-μ-loop2 words n ticks good₀ badges t changed₀ u unseen₀ good changed unseen = size (members unseen)
+μ-loop2 words n ticks good₀ badges changed₀ t u unseen₀ good changed unseen = size (members unseen)
 
 abbrev Inv-loop : tie.InvT-loop
-Inv-loop words n ticks good₀ badges t changed₀ u₀ good changed u =
+Inv-loop words n ticks good₀ badges changed₀ t u₀ good changed u =
     (good ≡ true) × ((k : ℕ) → k < u → ValidRow n (change n words t) k) × (u ≤ n) × LeftAt n (change n words t) u changed
 
 abbrev μ-loop : tie.MeasureT-loop
-μ-loop words n ticks good₀ badges t changed₀ u₀ good changed u = n - u
+μ-loop words n ticks good₀ badges changed₀ t u₀ good changed u = n - u
 
 abbrev Inv-scan : tie.InvT-scan
-Inv-scan words n ticks good₀ badges t₀ good t = (good ≡ true) × ((k : ℕ) → k < t → IsTick n (neighbours n words k)) × (t ≤ ticks)
+Inv-scan words n ticks good₀ badges changed₀ t₀ good changed t = (good ≡ true) × ((k : ℕ) → k < t → IsTick n (neighbours n words k)) × (t ≤ ticks)
 
 abbrev μ-scan : tie.MeasureT-scan
-μ-scan words n ticks good₀ badges t₀ good t = ticks - t
+μ-scan words n ticks good₀ badges changed₀ t₀ good changed t = ticks - t
 
 -- A turn of the loop over a tick's badges: the words, n, the tick, the badge, and the changes in the row of each badge.
 abbrev Turn : Type 0
 Turn = tie.In-loop Inv-loop2 μ-loop2 Inv-loop μ-loop Inv-scan μ-scan
 
 abbrev Words : Turn → List ℕ
-Words r = r .before .before .before .before .before .before .before .args .words .now
+Words r = r .before .before .before .before .before .before .before .before .args .words .now
 
 abbrev N : Turn → ℕ
-N r = r .before .before .before .before .before .before .before .args .n
+N r = r .before .before .before .before .before .before .before .before .args .n
 
 abbrev Tick : Turn → ℕ
-Tick r = r .before .before .before .before .scan .t
+Tick r = r .before .before .before .before .before .scan .t
 
 abbrev Badge : Turn → ℕ
 Badge r = r .before .loop .u
@@ -83,8 +83,8 @@ walk i = i .before .before .before .loop2 .inv .1
 
 -- where the row of a badge is not valid, the words are not a day
 broken : (r : Turn) → (ValidRow (N r) (Rows r) (Badge r) → ⊥) →
-    false ≡ isDay (N r) (r .before .before .before .before .before .before .before .args .ticks) (Words r)
-broken r f = sym (day-broken (N r) _ (Words r) (Tick r) (Badge r) (r .before .before .before .scan-test .taken) (r .loop-test .taken) f)
+    false ≡ isDay (N r) (r .before .before .before .before .before .before .before .before .args .ticks) (Words r)
+broken r f = sym (day-broken (N r) _ (Words r) (Tick r) (Badge r) (r .before .before .before .before .scan-test .taken) (r .loop-test .taken) f)
 
 -- what the program tests of what is left of the row
 tested : (c : tie.After-is-subset Inv-loop2 μ-loop2 Inv-loop μ-loop Inv-scan μ-scan) →
@@ -93,17 +93,17 @@ tested : (c : tie.After-is-subset Inv-loop2 μ-loop2 Inv-loop μ-loop Inv-scan �
 tested c =
     let r = c .before .before .before .before .before in
     let e : min (N r) capacity ≡ N r = omega arith in
-    let all = r .before .before .before .before .before .full .ensures ∙ ap full e in
+    let all = r .before .before .before .before .before .before .full .ensures ∙ ap full e in
     c .is-subset .ensures ∙ ap₂ isSub (c .before .before .before .before .from-word .ensures)
     (c .before .without .ensures ∙ ap (λ (x : ℕ). difference x (only (Badge r))) all)
 
--- the badge at hand is one of the unseen, so it is below n
+-- the badge at hand is one of the unseen, so there is a row for it
 unseen-in : (i : Step) → In (Unseen i) (Other i)
 unseen-in i =
     smallest-unseen (walk i .subset) (walk-lt (walk i) (omega arith)) (i .before .before .is-empty2 .ensures) (i .before .if3 .taken) (i .smallest .ensures) .0
 
-other-small : (i : Step) → Other i < N (Row i)
-other-small i = walk-member (walk i) (Other i) (unseen-in i) .1
+other-small : (i : Step) → Other i < capacity
+other-small i = omega (arith, walk-member (walk i) (Other i) (unseen-in i) .1)
 
 -- what the program tests of it: whether what is left of its row has the badge whose row is walked
 mirror : (c : tie.After-has Inv-loop2 μ-loop2 Inv-loop μ-loop Inv-scan μ-scan) →
@@ -132,13 +132,13 @@ full-requires c κs = search needs
 scan-holds : tie.Need-scan-holds Inv-loop2 μ-loop2 Inv-loop μ-loop Inv-scan μ-scan
 scan-holds c = (refl, below-none _, search needs)
 
-changes-requires : tie.Need-changes-requires Inv-loop2 μ-loop2 Inv-loop μ-loop Inv-scan μ-scan
-changes-requires c κs =
-    let a = c .before .before .before .before .args in
-    (search needs, omega (arith, tick-fits (c .before .scan .t) (a .ticks) (a .n) (c .scan-test .taken)))
+put-changes-requires : tie.Need-put-changes-requires Inv-loop2 μ-loop2 Inv-loop μ-loop Inv-scan μ-scan
+put-changes-requires c κs =
+    let a = c .before .before .before .before .before .args in
+    (search needs, omega (arith, tick-fits (c .before .before .scan .t) (a .ticks) (a .n) (c .before .scan-test .taken)))
 
 loop-holds : tie.Need-loop-holds Inv-loop2 μ-loop2 Inv-loop μ-loop Inv-scan μ-scan
-loop-holds c = (search needs, below-none _, search needs, left-none _ _ (c .changes .ensures .at))
+loop-holds c = (search needs, below-none _, search needs, left-none _ _ (c .put-changes .ensures .at))
 
 mul-from-word : tie.Need-mul-from-word Inv-loop2 μ-loop2 Inv-loop μ-loop Inv-scan μ-scan
 mul-from-word c = search needs
@@ -242,7 +242,7 @@ scan-less c = search needs
 
 scan-again : tie.Need-scan-again Inv-loop2 μ-loop2 Inv-loop μ-loop Inv-scan μ-scan
 scan-again c =
-    let day = c .before .before .before .before .scan .inv .1 in
+    let day = c .before .before .before .before .before .scan .inv .1 in
     (search needs, below-more _ _ day (change-of _ _ _ day (tick-done _ _ (λ u l. c .before .loop .inv .1 u (omega arith)))), search needs)
 
 returns : tie.Need-returns Inv-loop2 μ-loop2 Inv-loop μ-loop Inv-scan μ-scan
@@ -273,7 +273,7 @@ is-day-spec =
     μ-scan
     full-requires
     scan-holds
-    changes-requires
+    put-changes-requires
     loop-holds
     mul-from-word
     array-read-from-word

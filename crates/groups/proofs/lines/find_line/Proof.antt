@@ -1,5 +1,5 @@
 -- `find_line` meets its contract: at the turn of a last tick the spans that end before it have been found.
-use mathlib.Core.Path.{sym, ap, _∙_}
+use mathlib.Core.Path.{refl, sym, ap, _∙_}
 use Prim.Native.Nat.{_-_, _*_, _<_}
 use native.Mathlib.Omega.{arith}
 use lib.ListN.{length, getD}
@@ -27,30 +27,30 @@ Turn = tie.In-loop Inv-loop μ-loop
 
 asked : (i : Turn) →
     let l = i .before .loop in
-    let a = i .before .before .before .before .before .before .args in CoreAsked (a .day .badges) (a .day .ticks) (a .words .now) (members (a .query)) (a .first) (l .last) (getD (l .orders) (l .last) 0) (l .upper) (l .rows) (l .reached)
+    let a = i .before .before .before .before .before .before .before .args in CoreAsked (a .day .badges) (a .day .ticks) (a .words .now) (members (a .query)) (a .first) (l .last) (getD (l .orders) (l .last) 0) (l .upper) (l .rows) (l .reached)
 asked i =
-    let p = i .before .before .before .before .before .before .pre in
+    let p = i .before .before .before .before .before .before .before .pre in
     finding-asks (p .0) (p .1) (p .2) (i .before .loop .inv) (i .loop-test .taken)
 
 at-orders : (i : Turn) → i .before .loop .last < length (i .before .loop .orders)
 at-orders i =
-    let p = i .before .before .before .before .before .before .pre in
+    let p = i .before .before .before .before .before .before .before .pre in
     place-orders (p .0) (p .1) (p .2) (i .before .loop .inv) (i .loop-test .taken)
 
 at-cores : (i : Turn) → i .before .loop .last < length (i .before .loop .cores)
 at-cores i =
-    let p = i .before .before .before .before .before .before .pre in
+    let p = i .before .before .before .before .before .before .before .pre in
     place-members (p .0) (p .1) (p .2) (i .before .loop .inv) (i .loop-test .taken)
 
 -- no tick is large
 small : (i : Turn) → i .before .loop .last * 8 < 1000
-small i = omega (arith, i .loop-test .taken, limits-of (i .before .before .before .before .before .before .pre .0 .limits) .short)
+small i = omega (arith, i .loop-test .taken, limits-of (i .before .before .before .before .before .before .before .pre .0 .limits) .short)
 
 first-rows-requires : tie.Need-first-rows-requires Inv-loop μ-loop
-first-rows-requires c κs = let p = c .before .before .before .pre in first-span (p .0) (p .1)
+first-rows-requires c κs = let p = c .before .before .before .before .pre in (first-span (p .0) (p .1), refl)
 
 loop-holds : tie.Need-loop-holds Inv-loop μ-loop
-loop-holds c = let p = c .before .before .before .before .pre in finding-start (p .0) (p .1) (p .2) (c .first-rows .ensures) (p .3)
+loop-holds c = let p = c .before .before .before .before .before .pre in finding-start (p .0) (p .1) (p .2) (c .first-rows .ensures) (p .3)
 
 slice-read-lower : tie.Need-slice-read-lower Inv-loop μ-loop
 slice-read-lower c = at-orders (c .before)
@@ -73,7 +73,7 @@ loop-less c = search needs
 loop-again : tie.Need-loop-again Inv-loop μ-loop
 loop-again c =
     let i = c .before .before in
-    let p = i .before .before .before .before .before .before .pre in
+    let p = i .before .before .before .before .before .before .before .pre in
     finding-next (p .0) (p .1) (p .2) (i .before .loop .inv) (i .loop-test .taken) (bounds-meet (asked i) (c .if1 .taken))
 
 slice-aggregate-narrow-to : tie.Need-slice-aggregate-narrow-to Inv-loop μ-loop
@@ -118,7 +118,7 @@ loop-again-2 c =
     let h = c .before .before in
     let n = h .before .before .before .before in
     let i = turn (c .before) in
-    let p = i .before .before .before .before .before .before .pre in
+    let p = i .before .before .before .before .before .before .before .pre in
     let s = asked i .span in
     let e = n .narrow-to .ensures in
     let b = h .before .united .ensures in
@@ -129,7 +129,7 @@ same-length : tie.Need-same-length Inv-loop μ-loop
 same-length c = c .before .loop .inv .found .orders-size
 
 same-length-2 : tie.Need-same-length-2 Inv-loop μ-loop
-same-length-2 c = c .before .loop .inv .found .members-size ∙ sym (c .before .before .before .before .before .before .pre .3)
+same-length-2 c = c .before .loop .inv .found .members-size ∙ sym (c .before .before .before .before .before .before .before .pre .3)
 
 returns : tie.Need-returns Inv-loop μ-loop
 returns c = finding-end (c .before .loop .inv) (c .loop-test .left)

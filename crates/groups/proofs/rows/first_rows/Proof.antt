@@ -9,41 +9,41 @@ use Rattle.groups.proofs.rows.first_rows.Tie as tie
 
 -- the words of the tick are among the words
 inside : (c : tie.After-shared-slice-known) → let a = c .before .args in a .first * a .day .badges + a .day .badges ≤ length (a .words .now)
-inside c = let p = c .before .pre in tick-inside _ p (p .rising)
+inside c = let p = c .before .pre .0 in tick-inside _ p (p .rising)
 
 mul-at : tie.Need-mul-at
 mul-at c = omega (arith, inside c)
 
-add-tick-rows : tie.Need-add-tick-rows
-add-tick-rows c = omega (arith, inside c)
+add-copy-tick : tie.Need-add-copy-tick
+add-copy-tick c = omega (arith, inside (c .before))
 
-mul-tick-rows : tie.Need-mul-tick-rows
-mul-tick-rows c = omega (arith, inside c)
+mul-copy-tick : tie.Need-mul-copy-tick
+mul-copy-tick c = omega (arith, inside (c .before))
 
-sub-tick-rows : tie.Need-sub-tick-rows
-sub-tick-rows c = search needs
+sub-copy-tick : tie.Need-sub-copy-tick
+sub-copy-tick c = search needs
 
-part-tick-rows-start : tie.Need-part-tick-rows-start
-part-tick-rows-start c = search needs
+part-copy-tick-start : tie.Need-part-copy-tick-start
+part-copy-tick-start c = search needs
 
-part-tick-rows-end : tie.Need-part-tick-rows-end
-part-tick-rows-end c = omega (arith, inside c)
+part-copy-tick-end : tie.Need-part-copy-tick-end
+part-copy-tick-end c = omega (arith, inside (c .before))
 
-tick-rows-requires : tie.Need-tick-rows-requires
-tick-rows-requires c κs = search needs
+copy-tick-requires : tie.Need-copy-tick-requires
+copy-tick-requires c κs = search needs
 
 returns : tie.Need-returns
-returns c = first-tick (c .before .before .before .pre) (c .tick-rows .ensures)
+returns c = let p = c .before .before .before .before .pre in first-tick (p .0) (p .1) (c .copy-tick .ensures)
 
 pub first-rows-spec : {M : Type 1} → statement M
 first-rows-spec =
     tie.close
     (tie.spec
     mul-at
-    add-tick-rows
-    mul-tick-rows
-    sub-tick-rows
-    part-tick-rows-start
-    part-tick-rows-end
-    tick-rows-requires
+    add-copy-tick
+    mul-copy-tick
+    sub-copy-tick
+    part-copy-tick-start
+    part-copy-tick-end
+    copy-tick-requires
     returns)

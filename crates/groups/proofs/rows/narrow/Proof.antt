@@ -6,7 +6,8 @@ use lib.ListN.{length, length-set}
 use borrow.Author.Needs.{needs}
 use Rattle.sets.specs.Sets.{intersection}
 use Rattle.sets.specs.Members.{capacity}
-use Rattle.groups.proofs.Narrowing.{narrowing, narrow-none, narrow-more, narrow-done, step-rows, step-words, step-longer}
+use Rattle.sets.proofs.Tables.{replaced-none, replaced-next}
+use Rattle.groups.proofs.Narrowing.{narrowing, narrow-done, step-rows, step-words, step-longer}
 use Rattle.groups.proofs.rows.narrow.Statement.{statement}
 use Rattle.groups.proofs.rows.narrow.Tie as tie
 
@@ -17,7 +18,7 @@ abbrev μ-loop : tie.MeasureT-loop
 μ-loop rows₀ tick u₀ u-end rows u = u-end - u
 
 loop-holds : tie.Need-loop-holds Inv-loop μ-loop
-loop-holds c = (search needs, refl, step-rows (c .pre), step-words (c .pre), narrow-none (c .args .rows .now) (c .args .tick .now) (step-rows (c .pre)))
+loop-holds c = (search needs, refl, step-rows (c .pre), step-words (c .pre), replaced-none capacity _ _ (step-rows (c .pre)))
 
 mul-rows : tie.Need-mul-rows Inv-loop μ-loop
 mul-rows c = search needs
@@ -48,7 +49,7 @@ unfolding intersection
 loop-again c =
     let l = c .before .before .before .loop in
     let a = c .before .before .before .before .args in
-    (search needs, refl, length-set (l .rows) (l .u) _ ∙ l .inv .2, l .inv .3, narrow-more (a .rows .now) (a .tick .now) (l .u) (omega (arith, c .before .before .loop-test .taken, l .inv .3)) (l .inv .4))
+    (search needs, refl, length-set (l .rows) (l .u) _ ∙ l .inv .2, l .inv .3, replaced-next capacity _ _ (omega (arith, c .before .before .loop-test .taken, l .inv .3)) refl (l .inv .4))
 
 same-length : tie.Need-same-length Inv-loop μ-loop
 same-length c = c .before .loop .inv .2 ∙ sym (step-rows (c .before .before .pre))
@@ -57,7 +58,7 @@ returns : tie.Need-returns Inv-loop μ-loop
 returns c =
     let l = c .before .loop in
     let a = c .before .before .args in
-    step-longer (narrow-done (a .rows .now) (a .tick .now) (omega (arith, c .loop-test .left)) (l .inv .4))
+    step-longer (narrow-done (a .rows .now) (a .tick .now) (omega (arith, c .loop-test .left, l .inv .3)) (l .inv .4))
 
 pub narrow-spec : {M : Type 1} → statement M
 narrow-spec =

@@ -1,24 +1,25 @@
--- `differences` meets its contract: after u turns the first u rows are the differences of the ticks' words.
+-- `put_differences` meets its contract: after u turns the first u rows are the differences of the ticks' words, and the others as they were.
 use mathlib.Core.Path.{_≡_, ap₂, _∙_}
 use Prim.Native.Nat.{_-_, _≤_}
 use native.Mathlib.Omega.{arith}
-use lib.ListN.{getD}
+use lib.ListN.{length, getD}
 use borrow.Author.Needs.{needs}
 use Rattle.sets.specs.Sets.{symmetricDifference}
 use Rattle.sets.specs.Members.{capacity}
-use Rattle.sets.proofs.Tables.{front, front-none, front-next}
-use Rattle.days.proofs.Changes.{differences-filled}
-use Rattle.days.proofs.comparing.differences.Statement.{statement}
-use Rattle.days.proofs.comparing.differences.Tie as tie
+use Rattle.sets.proofs.Tables.{replaced, replaced-none, replaced-next, replaced-done}
+use Rattle.days.specs.Changes.{differencesOver}
+use Rattle.days.proofs.comparing.put_differences.Statement.{statement}
+use Rattle.days.proofs.comparing.put_differences.Tie as tie
 
 abbrev Inv-loop : tie.InvT-loop
-Inv-loop tick before n out₀ u₀ out u = (u ≤ n) × (out ≡ front capacity (λ k. symmetricDifference (getD tick k 0) (getD before k 0)) u)
+Inv-loop tick before n all₀ u₀ all u =
+    (u ≤ n) × (length all ≡ capacity) × (all ≡ replaced capacity (λ k x. symmetricDifference (getD tick k 0) (getD before k 0)) all₀ u)
 
 abbrev μ-loop : tie.MeasureT-loop
-μ-loop tick before n out₀ u₀ out u = n - u
+μ-loop tick before n all₀ u₀ all u = n - u
 
 loop-holds : tie.Need-loop-holds Inv-loop μ-loop
-loop-holds c = (search needs, front-none capacity _)
+loop-holds c = let whole = c .all .given .0 .1 in (search needs, whole, replaced-none capacity _ _ whole)
 
 mul-from-word : tie.Need-mul-from-word Inv-loop μ-loop
 mul-from-word c = search needs
@@ -44,11 +45,11 @@ symmetric-difference-requires c κs = search needs
 to-word-requires : tie.Need-to-word-requires Inv-loop μ-loop
 to-word-requires c κs = search needs
 
-mul-out : tie.Need-mul-out Inv-loop μ-loop
-mul-out c = search needs
+mul-all : tie.Need-mul-all Inv-loop μ-loop
+mul-all c = search needs
 
-array-write-out : tie.Need-array-write-out Inv-loop μ-loop
-array-write-out c = search needs
+slice-write-all : tie.Need-slice-write-all Inv-loop μ-loop
+slice-write-all c = search needs
 
 add-u : tie.Need-add-u Inv-loop μ-loop
 add-u c = search needs
@@ -62,15 +63,15 @@ loop-again c =
     let earlier = difference .before in
     let current = earlier .before .before in
     let word = c .to-word .ensures ∙ difference .symmetric-difference .ensures ∙ ap₂ symmetricDifference (current .from-word .ensures) (earlier .from-word2 .ensures) in
-    (search needs, front-next capacity _ (omega arith) word (current .before .before .before .loop .inv .1))
+    let l = current .before .before .before in
+    (search needs, search needs, replaced-next capacity _ _ (omega (arith, l .before .before .before .before .pre .0)) word (l .loop .inv .2))
 
 returns : tie.Need-returns Inv-loop μ-loop
-returns c =
-    let a = c .before .before .before .before in
-    differences-filled _ _ (omega arith) (omega (arith, a .pre .1)) (omega (arith, a .pre .2)) (c .before .loop .inv .1)
+unfolding differencesOver
+returns c = replaced-done capacity _ _ _ (omega (arith, c .before .before .before .before .before .pre .1)) (c .before .loop .inv .2)
 
-pub differences-spec : {M : Type 1} → statement M
-differences-spec =
+pub put-differences-spec : {M : Type 1} → statement M
+put-differences-spec =
     tie.close
     (tie.spec
     Inv-loop
@@ -84,8 +85,8 @@ differences-spec =
     from-word-requires-2
     symmetric-difference-requires
     to-word-requires
-    mul-out
-    array-write-out
+    mul-all
+    slice-write-all
     add-u
     loop-less
     loop-again
