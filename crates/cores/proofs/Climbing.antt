@@ -16,7 +16,7 @@ use Rattle.sets.specs.Members.{capacity}
 use Rattle.sets.proofs.Bools.{clash, and-in, and-left}
 use Rattle.sets.proofs.Sets.{in-lt, sub-refl, sub-trans, sub-pos, sub-antisym, is-sub-in}
 use Rattle.sets.proofs.Size.{size-le}
-use Rattle.planes.specs.Lanes.{lane, half, Plus, LargestLane}
+use Rattle.planes.specs.Lanes.{half, Plus, LargestLane}
 use Rattle.cores.specs.Cores.{core}
 use Rattle.cores.specs.Orders.{contains, score, highestOrder, highestMembers, HighestFound}
 use Rattle.cores.specs.Columns.{transposed, inDegree}

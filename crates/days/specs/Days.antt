@@ -30,6 +30,11 @@ tickWords n r = tabulate n (λ u. setOf n (r u))
 unfoldable pub tickOver : List ℕ → List ℕ → List ℕ
 tickOver tick rows = tabulate capacity (piecewise (full (length tick)) (λ u. getD tick u 0) (λ u. getD rows u 0))
 
+-- s has every badge that is in some row of a badge that a set can hold, and no other
+pub record Unites (rows : List ℕ) (s : ℕ) : Type 0 where
+  pub has : (u v : ℕ) → u < capacity → In (getD rows u 0) v → In s v
+  pub of : (v : ℕ) → In s v → (u : ℕ) × In (getD rows u 0) v
+
 -- the words of a day, tick by tick: r t u v says whether u and v are in contact in tick t
 unfoldable pub dayWords : ℕ → ℕ → (ℕ → ℕ → ℕ → Bool) → List ℕ
 dayWords n zero r = []

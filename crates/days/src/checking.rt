@@ -6,6 +6,7 @@ ghost use Rattle.records.specs.Limits.{maxBadges, wordsFor};
 ghost use Rattle.days.specs.Days.{isDay};
 ghost use Rattle.days.specs.Calls.{checkOf, checkedOutcome};
 use crate::comparing::put_changes;
+use crate::rows::united;
 use records::Refusal;
 use records::within_limits;
 use sets::BadgeSet;
@@ -17,7 +18,7 @@ pub enum Checked {
 }
 
 // Whether the words are a day: the search goes tick by tick and badge by badge, and stops at the first pair that breaks it. After a tick of a day
-// only a pair that changes can break the next, so it looks at the changes alone. It looks at each pair once: the walk over u's row takes u out of
+// only a pair that changes can break the next, so it looks at the changes alone, and passes over a tick and a row without any. It looks at each pair once: the walk over u's row takes u out of
 // the rows of the others. A row's own bit and its bits from n up are tested at once, before its set bits are walked for one that has no mirror.
 fn is_day(words: &[u64], n: usize, ticks: usize) -> bool
     requires { ⌜ (n ≤ maxBadges) × (wordsFor n ticks ≤ length (now words)) ⌝ }
@@ -28,6 +29,9 @@ fn is_day(words: &[u64], n: usize, ticks: usize) -> bool
     let mut changed = [0u64; 64];
     'scan: for t in 0..ticks {
         put_changes(&mut changed, words, n, t);
+        if united(&changed).is_empty() {
+            continue;
+        }
         for u in 0..n {
             let mut unseen = BadgeSet::from_word(changed[u]);
             if unseen.is_empty() {

@@ -1,8 +1,10 @@
-// The rows of one tick as an array: a word for each badge that a set can hold.
+// Rows in an array, a word for each badge that a set can hold: the words of one tick copied there, and the badges that are in them.
 ghost use mathlib.Core.Path.{_≡_};
 ghost use Prim.Native.Nat.{min};
 ghost use lib.ListN.{length};
-ghost use Rattle.days.specs.Days.{tickOver};
+ghost use Rattle.sets.specs.Members.{members};
+ghost use Rattle.days.specs.Days.{tickOver, Unites};
+use sets::BadgeSet;
 
 // The smaller of a tick's number of words and 64.
 fn row_count(tick: &[u64]) -> usize
@@ -20,4 +22,15 @@ pub fn copy_tick(rows: &mut [u64; 64], tick: &[u64])
     for u in 0..row_count(tick) {
         all[u] = tick[u];
     }
+}
+
+// Every badge that is in some row.
+pub fn united(rows: &[u64; 64]) -> BadgeSet
+    ensures { λ r. ⌜ Unites (now (rows .entry)) (members r) ⌝ }
+{
+    let mut all: u64 = 0;
+    for u in 0..64usize {
+        all = all | rows[u];
+    }
+    BadgeSet::from_word(all)
 }

@@ -12,7 +12,7 @@ use Rattle.sets.specs.Sets.{full}
 use Rattle.sets.specs.Members.{capacity}
 use Rattle.records.specs.Limits.{maxTicks}
 use Rattle.records.proofs.WithinLimits.{limits-of}
-use Rattle.days.specs.Days.{LentDay}
+use Rattle.days.specs.Days.{LentDay, Unites}
 use Rattle.cores.specs.Cores.{core}
 use Rattle.cores.specs.Orders.{highestOrder, highestMembers}
 use Rattle.cores.specs.Rows.{graph}
@@ -22,7 +22,7 @@ use Rattle.spans.specs.SpanCores.{coreOn}
 use Rattle.spans.specs.Plans.{scoreOn}
 use Rattle.spans.specs.LongerSpans.{scoreBefore, newMembers}
 use Rattle.spans.proofs.Maximal.{score-falls, score-before-le, score-on-le, new-yes, new-no}
-use Rattle.groups.specs.Steps.{RowsTo, Unites}
+use Rattle.groups.specs.Steps.{RowsTo}
 use Rattle.groups.specs.Lines.{ScoresBefore, LineFound}
 use Rattle.groups.proofs.RowCores.{rows-score, rows-core, rows-none, united-core}
 

@@ -1,15 +1,14 @@
 -- The highest core found from the rows of a span is that of the span, also among the badges that are in some row.
 use mathlib.Core.Path.{_≡_, ap, _∙_}
 use mathlib.Core.List.{List}
-use mathlib.Core.Logic.{inl, inr, by-cases}
-use Prim.Native.Nat.{ℕ, _+_, _≤_, _<_, min, max}
+use mathlib.Core.Logic.{by-cases}
+use Prim.Native.Nat.{ℕ, _≤_, _<_, min, max}
 use native.Mathlib.Nat.{le-refl, le-trans}
 use native.Mathlib.Decide.{decLt}
 use native.Mathlib.Omega.{arith}
-use lib.ListN.{length, getD, List·getD-eq-default}
-use Rattle.sets.specs.Sets.{In, Sub, full, union, intersection, size}
+use Rattle.sets.specs.Sets.{In, Sub, full, intersection, size}
 use Rattle.sets.specs.Members.{capacity}
-use Rattle.sets.proofs.Sets.{not-in-none, some, in-union-left, in-union-right, of-union, of-intersection-left, of-intersection-right, in-full, of-full, sub-refl, sub-antisym}
+use Rattle.sets.proofs.Sets.{not-in-none, some, of-intersection-left, of-intersection-right, in-full, of-full, sub-refl, sub-antisym}
 use Rattle.sets.proofs.Size.{size-none}
 use Rattle.records.proofs.WithinLimits.{limits-of}
 use Rattle.cores.specs.Graphs.{degree}
@@ -20,11 +19,11 @@ use Rattle.cores.specs.Columns.{Symmetric}
 use Rattle.cores.proofs.Degrees.{pairs-refl}
 use Rattle.cores.proofs.Cores.{core-sub, core-cohesive, core-largest, core-mono}
 use Rattle.cores.proofs.Orders.{score-same, highest-same, highest-yes, highest-no}
+use Rattle.days.specs.Days.{Unites}
 use Rattle.spans.specs.Spans.{SpanOfDay, spanNeighbours, spanRows}
 use Rattle.spans.specs.SpanCores.{coreOn}
 use Rattle.spans.specs.Plans.{scoreOn}
 use Rattle.spans.proofs.SpanRows.{in-span, of-span, span-row, span-row-none}
-use Rattle.groups.specs.Steps.{Unites}
 use Rattle.groups.proofs.NumbersCall.{rows-fewer, rows-more}
 
 module _ (n : ℕ) (ws : List ℕ) (first last : ℕ) (w : n ≤ capacity) {rows : List ℕ} (e : rows ≡ spanRows n ws first last) (query above most : ℕ) where
@@ -93,27 +92,4 @@ module _ {n T : ℕ} {ws : List ℕ} {first last : ℕ} (d : SpanOfDay n T ws fi
           let p : 1 ≤ size (intersection (graph rows v) (core (graph rows) (full n) j)) = le-trans l (core-cohesive (graph rows) (full n) j .each v i) in
           let x = some (intersection (graph rows v) (core (graph rows) (full n) j)) (λ z. omega (arith, ap size z, size-none)) in
           let u = of-full n (x .0) (core-sub (graph rows) (full n) j .at (x .0) (of-intersection-right (graph rows v) (core (graph rows) (full n) j) (x .0) (x .1))) in
-          b .has (x .0) v (back d e v (x .0) m u (of-intersection-left (graph rows v) (core (graph rows) (full n) j) (x .0) (x .1)))
-
--- The loop that unites rows, at row u: the set has every badge that is in a row before it, and no other.
-pub record Uniting (rows : List ℕ) (u s : ℕ) : Type 0 where
-  pub has : (k v : ℕ) → k < u → In (getD rows k 0) v → In s v
-  pub of : (v : ℕ) → In s v → (k : ℕ) × In (getD rows k 0) v
-
-pub uniting-none : (rows : List ℕ) → Uniting rows 0 0
-uniting-none rows = record { has = λ k v l i. absurd (omega arith); of = λ v i. absurd (not-in-none v i) }
-
-pub uniting-more : {rows : List ℕ} {u s : ℕ} → Uniting rows u s → Uniting rows (u + 1) (union s (getD rows u 0))
-uniting-more {rows} {u} {s} h = record {
-  has = λ k v l i. by-cases (decLt k u)
-      (λ m. in-union-left s (getD rows u 0) v (h .has k v m i))
-      (λ m. let e : k ≡ u = omega arith in in-union-right s (getD rows u 0) v (rw e at i));
-  of = λ v i. elim (of-union s (getD rows u 0) v i) [ inl j ↦ h .of v j | inr j ↦ (u, j) ];
-}
-
--- after the last row
-pub uniting-all : {rows : List ℕ} {u s : ℕ} → Uniting rows u s → length rows ≤ u → Unites rows s
-uniting-all {rows} {u} h l = record {
-  has = λ k v i. by-cases (decLt k u) (λ m. h .has k v m i) (λ m. let p : length rows ≤ k = omega arith in absurd (not-in-none v (rw (List·getD-eq-default rows 0 p) at i)));
-  of = h .of;
-}
+          b .has (x .0) v (omega (arith, u, few d e)) (back d e v (x .0) m u (of-intersection-left (graph rows v) (core (graph rows) (full n) j) (x .0) (x .1)))

@@ -2,8 +2,7 @@
 use mathlib.Core.Path.{_≡_}
 use mathlib.Core.List.{List}
 use Prim.Native.Nat.{ℕ, suc, _*_, _≤_}
-use lib.ListN.{length, getD, take, drop}
-use Rattle.sets.specs.Sets.{In}
+use lib.ListN.{length, take, drop}
 use Rattle.sets.specs.Members.{capacity}
 use Rattle.spans.specs.Spans.{spanRows}
 
@@ -32,8 +31,3 @@ pub record RowsTo (n : ℕ) (ws : List ℕ) (first last : ℕ) (rows : List ℕ)
   pub low : first ≤ reached
   pub high : reached ≤ last
   pub are : rows ≡ spanRows n ws first reached
-
--- s has every badge that is in some row, and no other
-pub record Unites (rows : List ℕ) (s : ℕ) : Type 0 where
-  pub has : (u v : ℕ) → In (getD rows u 0) v → In s v
-  pub of : (v : ℕ) → In s v → (u : ℕ) × In (getD rows u 0) v

@@ -1,13 +1,12 @@
 // The rows of a span: for each badge, those in contact with it in every tick.
 ghost use mathlib.Core.Path.{_≡_};
 ghost use lib.ListN.{replicate};
-ghost use Rattle.sets.specs.Members.{capacity, members};
+ghost use Rattle.sets.specs.Members.{capacity};
 ghost use Rattle.spans.specs.Spans.{spanRows, SpanOfDay};
-ghost use Rattle.groups.specs.Steps.{NextTick, Narrows, RowsTo, Unites};
+ghost use Rattle.groups.specs.Steps.{NextTick, Narrows, RowsTo};
 use crate::day::Size;
 use crate::day::Span;
 use days::copy_tick;
-use sets::BadgeSet;
 
 // Narrows the rows of a span by the tick after it: of the neighbours of each badge that the tick has, those stay that are in contact with it in that
 // tick, too. The step gets these rows and this tick's words alone. The rows that it leaves are those of the longer span, whichever span of whichever
@@ -39,17 +38,6 @@ pub(crate) fn narrow_to(
         at += n;
         narrow(rows, &words[at..at + n]);
     }
-}
-
-// Every badge that is in some row.
-pub(crate) fn united(rows: &[u64]) -> BadgeSet
-    ensures { λ r. ⌜ Unites (now (rows .entry)) (members r) ⌝ }
-{
-    let mut all: u64 = 0;
-    for u in 0..rows.len() {
-        all = all | rows[u];
-    }
-    BadgeSet::from_word(all)
 }
 
 // Puts the rows of the span of one tick into an array of empty rows.

@@ -20,7 +20,8 @@ use Rattle.days.specs.Days.{neighbours, IsTick, IsDay, isDay}
 use Rattle.days.specs.Changes.{change}
 use Rattle.days.proofs.Days.{tick-fits}
 use Rattle.days.proofs.Changes.{change-of}
-use Rattle.days.proofs.Scan.{ValidRow, LeftAt, left-none, Walked, walk-none, walk-lt, walk-member, walk-broken, walk-more, walk-done, tick-done, day-in, day-broken}
+use Rattle.days.proofs.TickRows.{united-none}
+use Rattle.days.proofs.Scan.{row-none, ValidRow, LeftAt, left-none, Walked, walk-none, walk-lt, walk-member, walk-broken, walk-more, walk-done, tick-done, day-in, day-broken}
 use Rattle.days.proofs.checking.is_day.Statement.{statement}
 use Rattle.days.proofs.checking.is_day.Tie as tie
 
@@ -48,13 +49,13 @@ abbrev Turn : Type 0
 Turn = tie.In-loop Inv-loop2 μ-loop2 Inv-loop μ-loop Inv-scan μ-scan
 
 abbrev Words : Turn → List ℕ
-Words r = r .before .before .before .before .before .before .before .before .args .words .now
+Words r = r .before .before .before .before .before .before .before .before .before .before .before .before .args .words .now
 
 abbrev N : Turn → ℕ
-N r = r .before .before .before .before .before .before .before .before .args .n
+N r = r .before .before .before .before .before .before .before .before .before .before .before .before .args .n
 
 abbrev Tick : Turn → ℕ
-Tick r = r .before .before .before .before .before .scan .t
+Tick r = r .before .before .before .before .before .before .before .before .before .scan .t
 
 abbrev Badge : Turn → ℕ
 Badge r = r .before .loop .u
@@ -83,8 +84,8 @@ walk i = i .before .before .before .loop2 .inv .1
 
 -- where the row of a badge is not valid, the words are not a day
 broken : (r : Turn) → (ValidRow (N r) (Rows r) (Badge r) → ⊥) →
-    false ≡ isDay (N r) (r .before .before .before .before .before .before .before .before .args .ticks) (Words r)
-broken r f = sym (day-broken (N r) _ (Words r) (Tick r) (Badge r) (r .before .before .before .before .scan-test .taken) (r .loop-test .taken) f)
+    false ≡ isDay (N r) (r .before .before .before .before .before .before .before .before .before .before .before .before .args .ticks) (Words r)
+broken r f = sym (day-broken (N r) _ (Words r) (Tick r) (Badge r) (r .before .before .before .before .before .before .before .before .scan-test .taken) (r .loop-test .taken) f)
 
 -- what the program tests of what is left of the row
 tested : (c : tie.After-is-subset Inv-loop2 μ-loop2 Inv-loop μ-loop Inv-scan μ-scan) →
@@ -93,14 +94,14 @@ tested : (c : tie.After-is-subset Inv-loop2 μ-loop2 Inv-loop μ-loop Inv-scan �
 tested c =
     let r = c .before .before .before .before .before in
     let e : min (N r) capacity ≡ N r = omega arith in
-    let all = r .before .before .before .before .before .before .full .ensures ∙ ap full e in
+    let all = r .before .before .before .before .before .before .before .before .before .before .full .ensures ∙ ap full e in
     c .is-subset .ensures ∙ ap₂ isSub (c .before .before .before .before .from-word .ensures)
     (c .before .without .ensures ∙ ap (λ (x : ℕ). difference x (only (Badge r))) all)
 
 -- the badge at hand is one of the unseen, so there is a row for it
 unseen-in : (i : Step) → In (Unseen i) (Other i)
 unseen-in i =
-    smallest-unseen (walk i .subset) (walk-lt (walk i) (omega arith)) (i .before .before .is-empty2 .ensures) (i .before .if3 .taken) (i .smallest .ensures) .0
+    smallest-unseen (walk i .subset) (walk-lt (walk i) (omega arith)) (i .before .before .is-empty3 .ensures) (i .before .if4 .taken) (i .smallest .ensures) .0
 
 other-small : (i : Step) → Other i < capacity
 other-small i = omega (arith, walk-member (walk i) (Other i) (unseen-in i) .1)
@@ -137,8 +138,29 @@ put-changes-requires c κs =
     let a = c .before .before .before .before .before .args in
     (search needs, omega (arith, tick-fits (c .before .before .scan .t) (a .ticks) (a .n) (c .before .scan-test .taken)))
 
+united-requires : tie.Need-united-requires Inv-loop2 μ-loop2 Inv-loop μ-loop Inv-scan μ-scan
+united-requires c κs = search needs
+
+is-empty-requires : tie.Need-is-empty-requires Inv-loop2 μ-loop2 Inv-loop μ-loop Inv-scan μ-scan
+is-empty-requires c κs = search needs
+
+add-t : tie.Need-add-t Inv-loop2 μ-loop2 Inv-loop μ-loop Inv-scan μ-scan
+add-t c = search needs
+
+scan-less : tie.Need-scan-less Inv-loop2 μ-loop2 Inv-loop μ-loop Inv-scan μ-scan
+scan-less c = search needs
+
+scan-again : tie.Need-scan-again Inv-loop2 μ-loop2 Inv-loop μ-loop Inv-scan μ-scan
+scan-again c =
+    let w = c .before .before in
+    let p = w .before .before in
+    let day = p .before .before .before .scan .inv .1 in
+    let e = eqb-true _ _ (sym (c .before .is-empty .ensures) ∙ c .if1 .taken) in
+    let same = p .put-changes .ensures .at in
+    (search needs, below-more _ _ day (change-of _ _ _ day (tick-done _ _ (λ u l. row-none _ _ _ (sym (same u l) ∙ united-none (w .united .ensures) e u (omega arith))))), search needs)
+
 loop-holds : tie.Need-loop-holds Inv-loop2 μ-loop2 Inv-loop μ-loop Inv-scan μ-scan
-loop-holds c = (search needs, below-none _, search needs, left-none _ _ (c .put-changes .ensures .at))
+loop-holds c = (search needs, below-none _, search needs, left-none _ _ (c .before .before .before .before .put-changes .ensures .at))
 
 mul-from-word : tie.Need-mul-from-word Inv-loop2 μ-loop2 Inv-loop μ-loop Inv-scan μ-scan
 mul-from-word c = search needs
@@ -149,8 +171,8 @@ array-read-from-word c = omega arith
 from-word-requires : tie.Need-from-word-requires Inv-loop2 μ-loop2 Inv-loop μ-loop Inv-scan μ-scan
 from-word-requires c κs = search needs
 
-is-empty-requires : tie.Need-is-empty-requires Inv-loop2 μ-loop2 Inv-loop μ-loop Inv-scan μ-scan
-is-empty-requires c κs = search needs
+is-empty-requires-2 : tie.Need-is-empty-requires-2 Inv-loop2 μ-loop2 Inv-loop μ-loop Inv-scan μ-scan
+is-empty-requires-2 c κs = search needs
 
 add-u : tie.Need-add-u Inv-loop2 μ-loop2 Inv-loop μ-loop Inv-scan μ-scan
 add-u c = search needs
@@ -161,7 +183,7 @@ loop-less c = search needs
 loop-again : tie.Need-loop-again Inv-loop2 μ-loop2 Inv-loop μ-loop Inv-scan μ-scan
 loop-again c =
     let r = c .before .before .before in
-    let e = eqb-true _ _ (sym (c .before .is-empty .ensures) ∙ c .if1 .taken) in
+    let e = eqb-true _ _ (sym (c .before .is-empty2 .ensures) ∙ c .if2 .taken) in
     let d = walk-done (walk-none 0 (r .before .loop .inv .3) (r .loop-test .taken) (sym e ∙ c .before .before .from-word .ensures) (none-sub _)) refl in
     (search needs, below-more _ _ (r .before .loop .inv .1) (d .0), search needs, d .1)
 
@@ -175,11 +197,11 @@ loop2-holds : tie.Need-loop2-holds Inv-loop2 μ-loop2 Inv-loop μ-loop Inv-scan 
 loop2-holds c =
     let w = c .before .before .before .before .before in
     let r = w .before in
-    let others = is-sub-of _ _ (sym (tested (c .before)) ∙ not-false _ (c .if2 .left)) in
+    let others = is-sub-of _ _ (sym (tested (c .before)) ∙ not-false _ (c .if3 .left)) in
     (search needs, walk-none _ (r .before .loop .inv .3) (r .loop-test .taken) (w .from-word .ensures) (rw (w .from-word .ensures) others))
 
-is-empty-requires-2 : tie.Need-is-empty-requires-2 Inv-loop2 μ-loop2 Inv-loop μ-loop Inv-scan μ-scan
-is-empty-requires-2 c κs = search needs
+is-empty-requires-3 : tie.Need-is-empty-requires-3 Inv-loop2 μ-loop2 Inv-loop μ-loop Inv-scan μ-scan
+is-empty-requires-3 c κs = search needs
 
 smallest-requires : tie.Need-smallest-requires Inv-loop2 μ-loop2 Inv-loop μ-loop Inv-scan μ-scan
 smallest-requires c κs = search needs
@@ -218,7 +240,7 @@ loop2-again : tie.Need-loop2-again Inv-loop2 μ-loop2 Inv-loop μ-loop Inv-scan 
 loop2-again c =
     let w = c .before in
     let i = w .before .before .before .before .before in
-    let mirrored = in-test _ (Badge (Row i)) (sym (mirror (w .before .before .before)) ∙ not-false _ (w .before .before .if4 .left)) in
+    let mirrored = in-test _ (Badge (Row i)) (sym (mirror (w .before .before .before)) ∙ not-false _ (w .before .before .if5 .left)) in
     (search needs, rw (stepped c, stored w) (walk-more (walk i) (Other i) (unseen-in i) mirrored))
 
 add-u-2 : tie.Need-add-u-2 Inv-loop2 μ-loop2 Inv-loop μ-loop Inv-scan μ-scan
@@ -231,18 +253,18 @@ loop-again-2 : tie.Need-loop-again-2 Inv-loop2 μ-loop2 Inv-loop μ-loop Inv-sca
 loop-again-2 c =
     let l = c .before .before in
     let r = l .before .before .before .before .before .before .before in
-    let d = walk-done (l .loop2 .inv .1) (none-unseen (c .before .is-empty2 .ensures) (c .if3 .left)) in
+    let d = walk-done (l .loop2 .inv .1) (none-unseen (c .before .is-empty3 .ensures) (c .if4 .left)) in
     (search needs, below-more _ _ (r .before .loop .inv .1) (d .0), search needs, d .1)
 
-add-t : tie.Need-add-t Inv-loop2 μ-loop2 Inv-loop μ-loop Inv-scan μ-scan
-add-t c = search needs
+add-t-2 : tie.Need-add-t-2 Inv-loop2 μ-loop2 Inv-loop μ-loop Inv-scan μ-scan
+add-t-2 c = search needs
 
-scan-less : tie.Need-scan-less Inv-loop2 μ-loop2 Inv-loop μ-loop Inv-scan μ-scan
-scan-less c = search needs
+scan-less-2 : tie.Need-scan-less-2 Inv-loop2 μ-loop2 Inv-loop μ-loop Inv-scan μ-scan
+scan-less-2 c = search needs
 
-scan-again : tie.Need-scan-again Inv-loop2 μ-loop2 Inv-loop μ-loop Inv-scan μ-scan
-scan-again c =
-    let day = c .before .before .before .before .before .scan .inv .1 in
+scan-again-2 : tie.Need-scan-again-2 Inv-loop2 μ-loop2 Inv-loop μ-loop Inv-scan μ-scan
+scan-again-2 c =
+    let day = c .before .before .before .before .before .before .before .before .before .scan .inv .1 in
     (search needs, below-more _ _ day (change-of _ _ _ day (tick-done _ _ (λ u l. c .before .loop .inv .1 u (omega arith)))), search needs)
 
 returns : tie.Need-returns Inv-loop2 μ-loop2 Inv-loop μ-loop Inv-scan μ-scan
@@ -254,12 +276,12 @@ returns c =
 returns-2 : tie.Need-returns-2 Inv-loop2 μ-loop2 Inv-loop μ-loop Inv-scan μ-scan
 returns-2 c =
     let r = c .before .before .before .before .before .before in
-    broken r (λ p. clash (is-sub-in (sub-trans (r .before .loop .inv .3 .subset (Badge r) (r .loop-test .taken)) (p .others))) (sym (tested (c .before)) ∙ not-true _ (c .if2 .taken)))
+    broken r (λ p. clash (is-sub-in (sub-trans (r .before .loop .inv .3 .subset (Badge r) (r .loop-test .taken)) (p .others))) (sym (tested (c .before)) ∙ not-true _ (c .if3 .taken)))
 
 returns-3 : tie.Need-returns-3 Inv-loop2 μ-loop2 Inv-loop μ-loop Inv-scan μ-scan
 returns-3 c =
     let i = c .before .before .before in
-    broken (Row i) (walk-broken (walk i) (Other i) (unseen-in i) (out-test _ (Badge (Row i)) (sym (mirror (c .before)) ∙ not-true _ (c .if4 .taken))))
+    broken (Row i) (walk-broken (walk i) (Other i) (unseen-in i) (out-test _ (Badge (Row i)) (sym (mirror (c .before)) ∙ not-true _ (c .if5 .taken))))
 
 pub is-day-spec : {M : Type 1} → statement M
 is-day-spec =
@@ -274,18 +296,23 @@ is-day-spec =
     full-requires
     scan-holds
     put-changes-requires
+    united-requires
+    is-empty-requires
+    add-t
+    scan-less
+    scan-again
     loop-holds
     mul-from-word
     array-read-from-word
     from-word-requires
-    is-empty-requires
+    is-empty-requires-2
     add-u
     loop-less
     loop-again
     without-requires
     is-subset-requires
     loop2-holds
-    is-empty-requires-2
+    is-empty-requires-3
     smallest-requires
     mul-from-word-2
     array-read-from-word-2
@@ -301,9 +328,9 @@ is-day-spec =
     add-u-2
     loop-less-2
     loop-again-2
-    add-t
-    scan-less
-    scan-again
+    add-t-2
+    scan-less-2
+    scan-again-2
     returns
     returns-2
     returns-3)

@@ -1,5 +1,5 @@
 -- `find_line` meets its contract: at the turn of a last tick the spans that end before it have been found.
-use mathlib.Core.Path.{refl, sym, ap, _∙_}
+use mathlib.Core.Path.{refl, sym, _∙_}
 use Prim.Native.Nat.{_-_, _*_, _<_}
 use native.Mathlib.Omega.{arith}
 use lib.ListN.{length, getD}
@@ -7,7 +7,6 @@ use borrow.Author.Needs.{needs}
 use Rattle.sets.specs.Members.{members}
 use Rattle.records.proofs.WithinLimits.{limits-of}
 use Rattle.cores.proofs.Columns.{symmetric-highest}
-use Rattle.spans.proofs.SpanRows.{span-length}
 use Rattle.groups.proofs.Narrowing.{going-start, going-size}
 use Rattle.groups.proofs.RowCores.{rows-symmetric, within}
 use Rattle.groups.proofs.LineLoops.{CoreAsked, bounds-meet, core-found, Finding, first-span, finding-start, finding-asks, place-orders, place-members, finding-next, finding-end}
@@ -82,9 +81,6 @@ slice-aggregate-narrow-to c = sym (going-size (going-start (asked (c .before .be
 narrow-to-requires : tie.Need-narrow-to-requires Inv-loop μ-loop
 narrow-to-requires c κs = let i = c .before .before .before in (asked i .span, asked i .rows-to)
 
-slice-aggregate-united : tie.Need-slice-aggregate-united Inv-loop μ-loop
-slice-aggregate-united c = sym (ap length (c .before .before .narrow-to .ensures) ∙ span-length _ _ _ _)
-
 united-requires : tie.Need-united-requires Inv-loop μ-loop
 united-requires c κs = search needs
 
@@ -151,7 +147,6 @@ find-line-spec =
     loop-again
     slice-aggregate-narrow-to
     narrow-to-requires
-    slice-aggregate-united
     united-requires
     highest-core-requires
     slice-write-orders-2

@@ -5,7 +5,7 @@ use native.Mathlib.Nat.{mul-le-mul}
 use native.Mathlib.Numerals.{add-one}
 use native.Mathlib.Omega.{arith}
 use borrow.Author.Needs.{needs}
-use Rattle.spans.specs.Encoding.{spanCount, mostBytes}
+use Rattle.spans.specs.Encoding.{spanCount}
 use Rattle.groups.proofs.reporting.most_bytes.Statement.{statement}
 use Rattle.groups.proofs.reporting.most_bytes.Tie as tie
 

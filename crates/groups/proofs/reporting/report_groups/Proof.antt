@@ -1,6 +1,6 @@
 -- `report_groups` meets its contract: a buffer that holds any report of so many ticks holds this one, and else what is delivered is the report that was
 -- encoded.
-use mathlib.Core.Path.{_≡_, sym, ap, _∙_}
+use mathlib.Core.Path.{sym, ap, _∙_}
 use mathlib.Core.List.{List}
 use Prim.Native.Nat.{ℕ, _+_, _*_, _≤_}
 use native.Mathlib.Omega.{arith}

@@ -1,5 +1,4 @@
 -- `maximum::largest` meets its contract: plane by plane, the lanes of the largest number so far.
-use native.Mathlib.Omega.{arith}
 use borrow.Author.Needs.{needs}
 use Rattle.planes.proofs.LeadingLanes.{leads-start, leads-more, leads-end}
 use Rattle.planes.proofs.maximum.largest.Statement.{statement}
