@@ -69,7 +69,7 @@ pub(crate) fn core(rows: &[u64; 64], base: BadgeSet, order: usize) -> Kept
 
 // The rows of the members of a set, and an empty row for every other badge. The walk over the others has so many turns as there are rows at most:
 // so a compiler can tell that it ends, and leaves it out where a caller has no use for the rows.
-pub(crate) fn keep(rows: [u64; 64], s: BadgeSet) -> [u64; 64]
+pub fn keep(rows: [u64; 64], s: BadgeSet) -> [u64; 64]
     ensures { λ r. ⌜ r ≡ keptRows rows (members s) ⌝ }
 {
     if s.is_empty() {

@@ -7,12 +7,10 @@ use lib.ListN.{length, drop}
 use Rattle.sets.specs.Bools.{isnt}
 use Rattle.records.specs.declared.record.Record.{Record}
 use Rattle.records.specs.Limits.{withinLimits, wordsFor}
-use Rattle.records.specs.Outcomes.{Outcome, refused, success, refuseIf, refusedBy}
+use Rattle.records.specs.Outcomes.{Outcome, refused, success, refuseIf}
 use Rattle.records.specs.Judging.{judge}
 use Rattle.records.specs.Meaning.{badgesOf, ticksOf}
 use Rattle.records.specs.Verdicts.{Values, valuesOf}
-use Rattle.days.specs.declared.checking.Checked.{Checked}
-use Rattle.days.specs.declared.checking.Checked.the-variants as c
 use Rattle.days.specs.Days.{dayOf, isDay}
 
 -- read: its answer, and the words that were lent. "Read: log, 8."
@@ -37,7 +35,3 @@ checkOf n T ws =
     (refuseIf (ltb (length ws) (wordsFor n T)) 8 0
     (refuseIf (isnt (isDay n T ws)) 11 0
     (success tt)))
-
-abbrev pub checkedOutcome : Checked → Outcome (Unit {0})
-checkedOutcome c.Day = success tt
-checkedOutcome (c.Refused x) = refusedBy x

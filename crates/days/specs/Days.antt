@@ -7,9 +7,8 @@ use Prim.Native.Nat.{ℕ, zero, suc, _+_, _*_, _^_, _≤_, _<_}
 use lib.Dec.{ltb}
 use lib.ListN.{length, getD}
 use Rattle.sets.specs.Bools.{_and_, _or_, isnt, all}
-use Rattle.sets.specs.Sets.{In, has, full, setOf}
-use Rattle.sets.specs.Members.{capacity}
-use Rattle.sets.specs.Tables.{tabulate, piecewise}
+use Rattle.sets.specs.Sets.{In, has, setOf}
+use Rattle.sets.specs.Tables.{tabulate}
 use Rattle.records.specs.declared.record.Record.{Record}
 use Rattle.records.specs.Limits.{withinLimits, wordsFor}
 use Rattle.records.specs.Meaning.{badgesOf, ticksOf, inContact}
@@ -25,15 +24,6 @@ adjacent n ws t u v = has (neighbours n ws t u) v
 -- the words of one tick: for each badge, those that a relation joins to it
 unfoldable pub tickWords : ℕ → (ℕ → ℕ → Bool) → List ℕ
 tickWords n r = tabulate n (λ u. setOf n (r u))
-
--- the rows with the words of one tick over them: the tick's, as far as there are, then those that were there
-unfoldable pub tickOver : List ℕ → List ℕ → List ℕ
-tickOver tick rows = tabulate capacity (piecewise (full (length tick)) (λ u. getD tick u 0) (λ u. getD rows u 0))
-
--- s has every badge that is in some row of a badge that a set can hold, and no other
-pub record Unites (rows : List ℕ) (s : ℕ) : Type 0 where
-  pub has : (u v : ℕ) → u < capacity → In (getD rows u 0) v → In s v
-  pub of : (v : ℕ) → In s v → (u : ℕ) × In (getD rows u 0) v
 
 -- the words of a day, tick by tick: r t u v says whether u and v are in contact in tick t
 unfoldable pub dayWords : ℕ → ℕ → (ℕ → ℕ → ℕ → Bool) → List ℕ

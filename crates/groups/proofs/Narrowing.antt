@@ -11,9 +11,9 @@ use Rattle.sets.specs.Sets.{intersection}
 use Rattle.sets.specs.Members.{capacity}
 use Rattle.sets.proofs.Tables.{replaced, replaced-done}
 use Rattle.records.proofs.WithinLimits.{limits-of}
-use Rattle.days.specs.Days.{tickOver}
+use Rattle.checks.specs.Arrays.{tickOver}
 use Rattle.days.proofs.Days.{tick-fits}
-use Rattle.days.proofs.TickRows.{over-zeros}
+use Rattle.checks.proofs.TickRows.{over-zeros}
 use Rattle.spans.specs.Spans.{SpanOfDay, spanRows}
 use Rattle.spans.proofs.SpanRows.{span-length}
 use Rattle.groups.specs.Steps.{tickOf, NextTick, Narrows, RowsTo}

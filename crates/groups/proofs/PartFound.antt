@@ -7,8 +7,8 @@ use Rattle.sets.specs.Sets.{full}
 use Rattle.sets.specs.Members.{capacity}
 use Rattle.cores.specs.Orders.{HighestFound}
 use Rattle.cores.specs.Rows.{graph}
-use Rattle.cores.specs.Columns.{transposed}
-use Rattle.cores.proofs.Columns.{symmetric-climbed}
+use Rattle.innermost.specs.Columns.{transposed}
+use Rattle.innermost.proofs.Columns.{symmetric-climbed}
 use Rattle.records.proofs.WithinLimits.{limits-of}
 use Rattle.spans.specs.Spans.{SpanOfDay, spanRows}
 use Rattle.spans.specs.SpanCores.{coreOn}

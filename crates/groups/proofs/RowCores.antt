@@ -15,11 +15,11 @@ use Rattle.cores.specs.Graphs.{degree}
 use Rattle.cores.specs.Cores.{core}
 use Rattle.cores.specs.Orders.{highestOrder, highestMembers}
 use Rattle.cores.specs.Rows.{graph}
-use Rattle.cores.specs.Columns.{Symmetric}
+use Rattle.innermost.specs.Columns.{Symmetric}
 use Rattle.cores.proofs.Degrees.{pairs-refl}
 use Rattle.cores.proofs.Cores.{core-sub, core-cohesive, core-largest, core-mono}
 use Rattle.cores.proofs.Orders.{score-same, highest-same, highest-yes, highest-no}
-use Rattle.days.specs.Days.{Unites}
+use Rattle.checks.specs.Arrays.{Unites}
 use Rattle.spans.specs.Spans.{SpanOfDay, spanNeighbours, spanRows}
 use Rattle.spans.specs.SpanCores.{coreOn}
 use Rattle.spans.specs.Plans.{scoreOn}

@@ -9,8 +9,8 @@ ghost use Rattle.groups.specs.Lines.{ScoresBefore, LineFound};
 use crate::day::Size;
 use crate::rows::first_rows;
 use crate::rows::narrow_to;
-use cores::highest_core;
-use days::united;
+use checks::united;
+use innermost::highest_core;
 use sets::BadgeSet;
 
 // Finds the scores of a query on the spans that start with a tick, by last tick, and the members of the cores whose order is above the score

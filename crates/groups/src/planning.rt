@@ -42,7 +42,7 @@ fn part_members(words: &[u64], day: Size, query: BadgeSet, span: Span, score: u8
         return all;
     }
     let rows = span_rows(words, day, span);
-    let core = cores::highest(&rows, all, query, score - 1, score);
+    let core = innermost::highest(&rows, all, query, score - 1, score);
     core.members
 }
 

@@ -6,7 +6,7 @@ ghost use Rattle.spans.specs.Spans.{spanRows, SpanOfDay};
 ghost use Rattle.groups.specs.Steps.{NextTick, Narrows, RowsTo};
 use crate::day::Size;
 use crate::day::Span;
-use days::copy_tick;
+use checks::copy_tick;
 
 // Narrows the rows of a span by the tick after it: of the neighbours of each badge that the tick has, those stay that are in contact with it in that
 // tick, too. The step gets these rows and this tick's words alone. The rows that it leaves are those of the longer span, whichever span of whichever

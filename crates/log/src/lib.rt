@@ -10,8 +10,8 @@ mod ticks;
 mod tidying;
 mod writing;
 
-pub use days::Checked;
-pub use days::check_words;
+pub use checks::Checked;
+pub use checks::check_words;
 pub use days::read;
 pub use encoding::put;
 pub use encoding::put_record;

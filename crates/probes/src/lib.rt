@@ -5,7 +5,7 @@ mod answers;
 ghost use mathlib.Core.Path.{_≡_};
 ghost use lib.ListN.{getD};
 ghost use Rattle.cores.specs.Rows.{graph, coreNumbers, IsPeeled, IsHighest};
-ghost use Rattle.cores.specs.Columns.{transposed};
+ghost use Rattle.innermost.specs.Columns.{transposed};
 ghost use Rattle.probes.specs.Listings.{listedOf, linesOf};
 use answers::listing_answer;
 use sets::BadgeSet;
@@ -73,7 +73,7 @@ pub extern "C" fn probe_core_numbers(rows: &[u64; 64], base: u64, out: &mut [u8;
     *out = cores::core_numbers(*rows, BadgeSet::from_word(base));
 }
 
-// cores::highest_core: the answer has the order of the core and its members, as a set.
+// innermost::highest_core: the answer has the order of the core and its members, as a set.
 #[no_mangle]
 pub extern "C" fn probe_highest_core(
     rows: &[u64; 64],
@@ -86,7 +86,7 @@ pub extern "C" fn probe_highest_core(
 )
     ensures { λ _. ⌜ IsHighest (transposed (graph (now (rows .entry))) base) (now (rows .entry)) base query above most (getD (now (answer .exit)) 0 0) (getD (now (answer .exit)) 1 0) (now (out .exit)) ⌝ }
 {
-    let core = cores::highest_core(
+    let core = innermost::highest_core(
         *rows,
         BadgeSet::from_word(base),
         BadgeSet::from_word(query),

@@ -6,7 +6,7 @@ use lib.ListN.{length, getD}
 use borrow.Author.Needs.{needs}
 use Rattle.sets.specs.Members.{members}
 use Rattle.records.proofs.WithinLimits.{limits-of}
-use Rattle.cores.proofs.Columns.{symmetric-highest}
+use Rattle.innermost.proofs.Columns.{symmetric-highest}
 use Rattle.groups.proofs.Narrowing.{going-start, going-size}
 use Rattle.groups.proofs.RowCores.{rows-symmetric, within}
 use Rattle.groups.proofs.LineLoops.{CoreAsked, bounds-meet, core-found, Finding, first-span, finding-start, finding-asks, place-orders, place-members, finding-next, finding-end}

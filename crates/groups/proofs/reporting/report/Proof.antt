@@ -2,7 +2,8 @@
 use mathlib.Core.Path.{_≡_, sym, ap, _∙_}
 use borrow.Author.Needs.{needs}
 use Rattle.records.specs.Outcomes.{success}
-use Rattle.days.specs.Calls.{checkOf, checkedOutcome}
+use Rattle.days.specs.Calls.{checkOf}
+use Rattle.checks.specs.Answers.{checkedOutcome}
 use Rattle.days.proofs.Checks.{check-passed}
 use Rattle.log.specs.Buffers.{Delivered}
 use Rattle.groups.proofs.ReportTheorems.{report-refused, report-passed, reported}

@@ -4,7 +4,8 @@ use native.Mathlib.Omega.{arith}
 use lib.Seq.{length-take-le}
 use borrow.Author.Needs.{needs}
 use Rattle.records.specs.Outcomes.{success}
-use Rattle.days.specs.Calls.{checkOf, checkedOutcome}
+use Rattle.days.specs.Calls.{checkOf}
+use Rattle.checks.specs.Answers.{checkedOutcome}
 use Rattle.days.proofs.Checks.{check-passed}
 use Rattle.log.specs.Buffers.{Delivered}
 use Rattle.log.proofs.Delivering.{writable}

@@ -1,0 +1,55 @@
+-- `united` meets its contract: before the turn of row u the set has every badge that is in a row before it.
+use Prim.Native.Nat.{_-_, _≤_}
+use native.Mathlib.Omega.{arith}
+use borrow.Author.Needs.{needs}
+use Rattle.sets.specs.Sets.{union}
+use Rattle.sets.specs.Members.{capacity}
+use Rattle.checks.proofs.TickRows.{Uniting, uniting-none, uniting-more, uniting-all}
+use Rattle.checks.proofs.rows.united.Statement.{statement}
+use Rattle.checks.proofs.rows.united.Tie as tie
+
+abbrev Inv-loop : tie.InvT-loop
+Inv-loop rows all₀ u₀ all u = (u ≤ capacity) × Uniting rows u all
+
+abbrev μ-loop : tie.MeasureT-loop
+μ-loop rows all₀ u₀ all u = capacity - u
+
+loop-holds : tie.Need-loop-holds Inv-loop μ-loop
+loop-holds c = (search needs, uniting-none _)
+
+mul-all : tie.Need-mul-all Inv-loop μ-loop
+mul-all c = search needs
+
+element-copy-out-all : tie.Need-element-copy-out-all Inv-loop μ-loop
+element-copy-out-all c = search needs
+
+add-u : tie.Need-add-u Inv-loop μ-loop
+add-u c = search needs
+
+loop-less : tie.Need-loop-less Inv-loop μ-loop
+loop-less c = search needs
+
+loop-again : tie.Need-loop-again Inv-loop μ-loop
+unfolding union
+loop-again c = (search needs, uniting-more (c .before .before .loop .inv .1))
+
+from-word-requires : tie.Need-from-word-requires Inv-loop μ-loop
+from-word-requires c κs = search needs
+
+returns : tie.Need-returns Inv-loop μ-loop
+returns c = rw (c .from-word .ensures) (uniting-all (c .before .before .loop .inv .1) (omega (arith, c .before .loop-test .left)))
+
+pub united-spec : {M : Type 1} → statement M
+united-spec =
+    tie.close
+    (tie.spec
+    Inv-loop
+    μ-loop
+    loop-holds
+    mul-all
+    element-copy-out-all
+    add-u
+    loop-less
+    loop-again
+    from-word-requires
+    returns)

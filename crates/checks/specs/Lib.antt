@@ -1,0 +1,4 @@
+-- The check of words, and rows in an array: what a reader has to believe. Laws are in proofs/. (`Changes` is cited by private functions alone.)
+pub mod Answers
+pub mod Arrays
+pub mod Changes

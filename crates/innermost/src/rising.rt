@@ -1,0 +1,196 @@
+// The core of the highest order, by in-degrees that are counted in lanes while the order rises.
+ghost use mathlib.Core.Path.{_≡_};
+ghost use mathlib.Core.Bool.{true};
+ghost use Prim.Native.Nat.{_≤_, _<_, min};
+ghost use lib.Dec.{ltb};
+ghost use Rattle.sets.specs.Bools.{_and_};
+ghost use Rattle.sets.specs.Members.{members, capacity};
+ghost use Rattle.sets.specs.Sets.{isSub};
+ghost use Rattle.planes.specs.Lanes.{planesOf, half};
+ghost use Rattle.cores.specs.Rows.{graph, IsHighest};
+ghost use Rattle.cores.specs.Orders.{HighestFound};
+ghost use Rattle.innermost.specs.Columns.{transposed};
+ghost use Rattle.innermost.specs.Counting.{Counting, Settled, Climbing};
+use crate::lanes::count;
+use crate::lanes::discount;
+use cores::keep;
+use planes::Planes;
+use sets::BadgeSet;
+use sets::widen;
+
+// A core: its order, its members, and their rows, with an empty row for every other badge.
+pub struct Core {
+    pub order: u8,
+    pub members: BadgeSet,
+    pub rows: [u64; 64],
+}
+
+// The order and the members of a core.
+pub struct Found {
+    pub order: u8,
+    pub members: BadgeSet,
+}
+
+// A set of badges, and its in-degrees counted at an order.
+struct Counted {
+    members: BadgeSet,
+    planes: Planes,
+}
+
+// Where to begin: the highest core that is known, and the in-degrees in the base counted at the order after its own.
+struct Beginning {
+    order: u8,
+    found: BadgeSet,
+    planes: Planes,
+}
+
+// Where so many orders are to be tried, the first is found by the least in-degree.
+const MANY: u8 = 16;
+
+// Whether a set is there and contains the query.
+fn contains(s: BadgeSet, query: BadgeSet) -> bool
+    ensures { λ r. ⌜ r ≡ (ltb 0 (members s) and isSub (members query) (members s)) ⌝ }
+{
+    if s.is_empty() {
+        return false;
+    }
+    query.is_subset(s)
+}
+
+// The smaller of a number and a byte.
+fn capped(x: usize, most: u8) -> u8
+    ensures { λ r. ⌜ r ≡ min most x ⌝ }
+{
+    if x < widen(most) { x as u8 } else { most }
+}
+
+// No badges, with any planes.
+fn none(planes: Planes) -> Counted
+    ensures { λ r. ⌜ members (r .members) ≡ 0 ⌝ }
+{
+    Counted {
+        members: BadgeSet::EMPTY,
+        planes,
+    }
+}
+
+// Drops the badges whose in-degree is below the order, all at once, until there is none: what is left is a core. It stops where fewer badges
+// are left than the order asks, or not the whole query.
+fn settle(rows: &[u64; 64], given: Counted, query: BadgeSet, k: usize) -> Counted
+    requires { ⌜ (k ≤ half) × Counting (graph (now rows)) (members (given .members)) k (planesOf (given .planes)) ⌝ }
+    ensures { λ r. ⌜ Settled (graph (now (rows .entry))) (members (given .members)) (members query) k (members (r .members)) (planesOf (r .planes)) ⌝ }
+{
+    let mut left = given.members;
+    let mut planes = given.planes;
+    loop {
+        let low = left.intersection(BadgeSet::from_word(planes.p7));
+        if low.is_empty() {
+            return Counted {
+                members: left,
+                planes,
+            };
+        }
+        let fewer = left.difference(low);
+        if fewer.size() < k {
+            return none(planes);
+        }
+        if !query.is_subset(fewer) {
+            return none(planes);
+        }
+        let next = discount(planes, rows, low);
+        planes = next;
+        left = fewer;
+    }
+}
+
+// Where to begin, for orders above one and up to another, in a base that contains the query. The base is the core of every order up to its least in-degree: where many orders are to be
+// tried, those up to it are left out.
+fn start(rows: &[u64; 64], base: BadgeSet, query: BadgeSet, above: u8, stop: u8) -> Beginning
+    requires { ⌜ (above < stop) × (stop ≤ capacity) × ((ltb 0 (members base) and isSub (members query) (members base)) ≡ true) ⌝ }
+    ensures { λ r. ⌜ Climbing (graph (now (rows .entry))) (members base) (members query) above stop (r .order) (members (r .found)) (members base) (planesOf (r .planes)) ⌝ }
+{
+    let planes = count(rows, base, widen(above) + 1);
+    let lowest = Beginning {
+        order: above,
+        found: BadgeSet::EMPTY,
+        planes,
+    };
+    if stop - above < MANY {
+        return lowest;
+    }
+    let least = widen(above) + planes::HALF - planes::largest(planes, base.to_word());
+    if least <= widen(above) {
+        return lowest;
+    }
+    let order = capped(least, stop);
+    Beginning {
+        order,
+        found: base,
+        planes: count(rows, base, widen(order) + 1),
+    }
+}
+
+// The core of the largest order above one order and up to another that contains the query, in a base that contains it.
+fn climb(rows: &[u64; 64], base: BadgeSet, query: BadgeSet, above: u8, stop: u8) -> Found
+    requires { ⌜ (above < stop) × (stop ≤ capacity) × ((ltb 0 (members base) and isSub (members query) (members base)) ≡ true) ⌝ }
+    ensures { λ r. ⌜ HighestFound (transposed (graph (now (rows .entry))) (members base)) (members base) (members query) above stop (r .order) (members (r .members)) ⌝ }
+{
+    let begin = start(rows, base, query, above, stop);
+    let mut order = begin.order;
+    let mut found = begin.found;
+    let mut left = base;
+    let mut planes = begin.planes;
+    while order < stop {
+        let given = Counted {
+            members: left,
+            planes,
+        };
+        let next = settle(rows, given, query, widen(order) + 1);
+        if !contains(next.members, query) {
+            break;
+        }
+        let core = next.members;
+        order += 1;
+        found = core;
+        left = core;
+        let raised = planes::add(next.planes, planes::EVERY);
+        planes = raised;
+    }
+    Found {
+        order,
+        members: found,
+    }
+}
+
+// The core of the largest order above one given order and up to another, among the badges of a base set, that contains the query; the lower
+// order and no members where there is none. It is a core of the transposed graph: the degree of a badge is the number of members in whose
+// row it is. For symmetric rows that is the graph itself.
+pub fn highest(rows: &[u64; 64], base: BadgeSet, query: BadgeSet, above: u8, most: u8) -> Found
+    ensures { λ r. ⌜ HighestFound (transposed (graph (now (rows .entry))) (members base)) (members base) (members query) above most (r .order) (members (r .members)) ⌝ }
+{
+    let nothing = Found {
+        order: above,
+        members: BadgeSet::EMPTY,
+    };
+    if !contains(base, query) {
+        return nothing;
+    }
+    let stop = capped(64, most);
+    if stop <= above {
+        return nothing;
+    }
+    climb(rows, base, query, above, stop)
+}
+
+// The same core with its rows: they go in by value, and those of the members come back.
+pub fn highest_core(rows: [u64; 64], base: BadgeSet, query: BadgeSet, above: u8, most: u8) -> Core
+    ensures { λ r. ⌜ IsHighest (transposed (graph rows) (members base)) rows (members base) (members query) above most (r .order) (members (r .members)) (r .rows) ⌝ }
+{
+    let found = highest(&rows, base, query, above, most);
+    let members = found.members;
+    Core {
+        order: found.order,
+        members,
+        rows: keep(rows, members),
+    }
+}
