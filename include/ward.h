@@ -11,8 +11,9 @@
  *   - memory that is written overlaps no other memory of the same call;
  *   - `answer` points to five numbers.
  *
- * A call uses the caller's stack, as it was measured (tests/stack-use.sh) and not proved: ward_read and ward_join under 1 KB, ward_core_numbers 3,
- * ward_plan 31, ward_write 49, ward_tidy 49, ward_report 62.
+ * A call uses the caller's stack, as it was measured (tests/stack-use.sh) and not proved: ward_read and ward_join under 1 KB, ward_core_numbers 2,
+ * ward_plan 29, ward_write 49, ward_tidy 49, ward_report 62. ward_report makes its answer in `out` where this has room for a group on each span of
+ * the day, 10 + 13 * (ticks * (ticks + 1) / 2) bytes; with less it takes time to clear memory of its own.
  *
  * Every call writes all five numbers of `answer`. On a refusal the first is its number and the second its byte offset, and the others are
  * 0; a refused call changes nothing else, except that ward_tidy refused by WARD_BUFFER_TOO_SHORT leaves the day in its work words. On
