@@ -1,8 +1,9 @@
--- Laws of rows in an array: the words of one tick over rows that are all 0, and the loop that unites rows.
+-- Laws of rows in an array: the words of one tick over rows that are all 0, and the union of rows.
 use mathlib.Core.Path.{_≡_, sym, _∙_}
 use mathlib.Core.List.{List}
 use mathlib.Core.Logic.{inl, inr, by-cases}
-use Prim.Native.Nat.{ℕ, _+_, _≤_, _<_}
+use Prim.Native.Nat.{ℕ, zero, suc, _+_, _<_}
+use native.Mathlib.Numerals.{add-one}
 use native.Mathlib.Decide.{decLt}
 use native.Mathlib.Omega.{arith}
 use lib.ListN.{length, getD, replicate, getD-replicate, List·getD-eq-default}
@@ -11,7 +12,7 @@ use Rattle.sets.specs.Members.{capacity}
 use Rattle.sets.specs.Tables.{tabulate}
 use Rattle.sets.proofs.Sets.{not-in-none, in-union-left, in-union-right, of-union, in-full, of-full, sub-antisym, none-sub}
 use Rattle.sets.proofs.Tables.{tabulate-same, piecewise-in, piecewise-out}
-use Rattle.checks.specs.Arrays.{tickOver, Unites}
+use Rattle.checks.specs.Arrays.{tickOver, unionOf}
 
 -- over rows that are all 0, the words of a tick are its rows, and the others stay 0
 pub over-zeros : (tick : List ℕ) → tickOver tick (replicate capacity 0) ≡ tabulate capacity (λ u. getD tick u 0)
@@ -21,25 +22,32 @@ over-zeros tick = tabulate-same capacity _ _ (λ u l.
     (λ p. piecewise-in (full (length tick)) _ _ u (in-full _ u p))
     (λ p. piecewise-out (full (length tick)) _ _ u (λ i. p (of-full _ u i)) ∙ getD-replicate capacity u 0 0 l ∙ sym (List·getD-eq-default tick 0 (omega arith))))
 
--- The loop that unites rows, at row u: the set has every badge that is in a row before it, and no other.
-pub record Uniting (rows : List ℕ) (u s : ℕ) : Type 0 where
-  pub has : (k v : ℕ) → k < u → In (getD rows k 0) v → In s v
-  pub of : (v : ℕ) → In s v → (k : ℕ) × In (getD rows k 0) v
+-- one row more is united
+pub union-more : (rows : List ℕ) (u : ℕ) → union (unionOf u rows) (getD rows u 0) ≡ unionOf (u + 1) rows
+unfolding unionOf
+union-more rows u = rw add-one
 
-pub uniting-none : (rows : List ℕ) → Uniting rows 0 0
-uniting-none rows = record { has = λ k v l i. absurd (omega arith); of = λ v i. absurd (not-in-none v i) }
+-- s has every badge that is in some row of a badge that a set can hold, and no other
+pub record Unites (rows : List ℕ) (s : ℕ) : Type 0 where
+  pub has : (u v : ℕ) → u < capacity → In (getD rows u 0) v → In s v
+  pub of : (v : ℕ) → In s v → (u : ℕ) × In (getD rows u 0) v
 
-pub uniting-more : {rows : List ℕ} {u s : ℕ} → Uniting rows u s → Uniting rows (u + 1) (union s (getD rows u 0))
-uniting-more {rows} {u} {s} h = record {
-  has = λ k v l i. by-cases (decLt k u)
-      (λ m. in-union-left s (getD rows u 0) v (h .has k v m i))
-      (λ m. let e : k ≡ u = omega arith in in-union-right s (getD rows u 0) v (rw e at i));
-  of = λ v i. elim (of-union s (getD rows u 0) v i) [ inl j ↦ h .of v j | inr j ↦ (u, j) ];
-}
+-- the union is such a set
+union-has : (rows : List ℕ) (m u v : ℕ) → u < m → In (getD rows u 0) v → In (unionOf m rows) v
+unfolding unionOf
+union-has rows zero u v l i = absurd (omega arith)
+union-has rows (suc m) u v l i =
+    by-cases (decLt u m)
+    (λ k. in-union-left (unionOf m rows) (getD rows m 0) v (union-has rows m u v k i))
+    (λ k. let e : u ≡ m = omega arith in in-union-right (unionOf m rows) (getD rows m 0) v (rw e at i))
 
--- after the last row
-pub uniting-all : {rows : List ℕ} {u s : ℕ} → Uniting rows u s → capacity ≤ u → Unites rows s
-uniting-all h l = record { has = λ k v m i. h .has k v (omega arith) i; of = h .of }
+union-of : (rows : List ℕ) (m v : ℕ) → In (unionOf m rows) v → (u : ℕ) × In (getD rows u 0) v
+unfolding unionOf
+union-of rows zero v i = absurd (not-in-none v i)
+union-of rows (suc m) v i = elim (of-union (unionOf m rows) (getD rows m 0) v i) [ inl j ↦ union-of rows m v j | inr j ↦ (m, j) ]
+
+pub unites : (rows : List ℕ) {s : ℕ} → s ≡ unionOf capacity rows → Unites rows s
+unites rows e = rw e (record { has = union-has rows capacity; of = union-of rows capacity })
 
 -- where it has none, every row is empty
 pub united-none : {rows : List ℕ} {s : ℕ} → Unites rows s → s ≡ 0 → (u : ℕ) → u < capacity → getD rows u 0 ≡ 0

@@ -1,8 +1,8 @@
 -- Rows in an array, a word for each badge that a set can hold.
 use mathlib.Core.List.{List}
-use Prim.Native.Nat.{ℕ, _<_}
+use Prim.Native.Nat.{ℕ, zero, suc}
 use lib.ListN.{length, getD}
-use Rattle.sets.specs.Sets.{In, full}
+use Rattle.sets.specs.Sets.{union, full}
 use Rattle.sets.specs.Members.{capacity}
 use Rattle.sets.specs.Tables.{tabulate, piecewise}
 
@@ -10,7 +10,7 @@ use Rattle.sets.specs.Tables.{tabulate, piecewise}
 unfoldable pub tickOver : List ℕ → List ℕ → List ℕ
 tickOver tick rows = tabulate capacity (piecewise (full (length tick)) (λ u. getD tick u 0) (λ u. getD rows u 0))
 
--- s has every badge that is in some row of a badge that a set can hold, and no other
-pub record Unites (rows : List ℕ) (s : ℕ) : Type 0 where
-  pub has : (u v : ℕ) → u < capacity → In (getD rows u 0) v → In s v
-  pub of : (v : ℕ) → In s v → (u : ℕ) × In (getD rows u 0) v
+-- every badge that is in one of the first m rows
+unfoldable pub unionOf : ℕ → List ℕ → ℕ
+unionOf zero rows = 0
+unionOf (suc m) rows = union (unionOf m rows) (getD rows m 0)

@@ -2,8 +2,8 @@
 ghost use mathlib.Core.Path.{_≡_};
 ghost use Prim.Native.Nat.{min};
 ghost use lib.ListN.{length};
-ghost use Rattle.sets.specs.Members.{members};
-ghost use Rattle.checks.specs.Arrays.{tickOver, Unites};
+ghost use Rattle.sets.specs.Members.{capacity, members};
+ghost use Rattle.checks.specs.Arrays.{tickOver, unionOf};
 use sets::BadgeSet;
 
 // The smaller of a tick's number of words and 64.
@@ -26,7 +26,7 @@ pub fn copy_tick(rows: &mut [u64; 64], tick: &[u64])
 
 // Every badge that is in some row.
 pub fn united(rows: &[u64; 64]) -> BadgeSet
-    ensures { λ r. ⌜ Unites (now (rows .entry)) (members r) ⌝ }
+    ensures { λ r. ⌜ members r ≡ unionOf capacity (now (rows .entry)) ⌝ }
 {
     let mut all: u64 = 0;
     for u in 0..64usize {

@@ -19,7 +19,7 @@ use Rattle.innermost.specs.Columns.{Symmetric}
 use Rattle.cores.proofs.Degrees.{pairs-refl}
 use Rattle.cores.proofs.Cores.{core-sub, core-cohesive, core-largest, core-mono}
 use Rattle.cores.proofs.Orders.{score-same, highest-same, highest-yes, highest-no}
-use Rattle.checks.specs.Arrays.{Unites}
+use Rattle.checks.proofs.TickRows.{Unites}
 use Rattle.spans.specs.Spans.{SpanOfDay, spanNeighbours, spanRows}
 use Rattle.spans.specs.SpanCores.{coreOn}
 use Rattle.spans.specs.Plans.{scoreOn}

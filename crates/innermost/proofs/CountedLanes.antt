@@ -12,9 +12,9 @@ use Rattle.sets.proofs.Sets.{in-lt, in-full, of-full, sub-antisym, is-sub-of}
 use Rattle.sets.proofs.Bits.{bit-none}
 use Rattle.sets.proofs.Size.{size-le, size-without}
 use Rattle.planes.specs.Lanes.{lane, half, Plus, Constant, Complement}
-use Rattle.planes.proofs.Lanes.{every-in}
+use Rattle.planes.proofs.Lanes.{plus-sum, constant-each, every-in}
 use Rattle.innermost.specs.Columns.{inDegree}
-use Rattle.innermost.specs.Counting.{TakesRow, AddsSome, Counting}
+use Rattle.innermost.specs.Counting.{TakesRow, AddsSome, AddsTo, Counting}
 use Rattle.innermost.proofs.Columns.{in-degree-le, in-degree-split, in-degree-less, in-degree-none, in-degree-full-none, in-degree-full-eight}
 
 -- the smallest member's row is taken, or none where there is no member
@@ -40,7 +40,7 @@ adds-eight {rows} {s} {s8 = s8} {ps} {qs} t1 t2 t3 t4 t5 t6 t7 t8 room p = recor
       let x6 = t6 .each v in
       let x7 = t7 .each v in
       let x8 = t8 .each v in
-      let sum = p .sum v (omega arith) in
+      let sum = plus-sum p v (omega arith) in
       omega arith;
 }
 
@@ -52,7 +52,7 @@ adds-two t1 t2 room p = record {
   each = λ v l.
       let x1 = t1 .each v in
       let x2 = t2 .each v in
-      let sum = p .sum v (omega arith) in
+      let sum = plus-sum p v (omega arith) in
       omega arith;
 }
 
@@ -71,11 +71,11 @@ prefix-more {rows} {m} h w room p = record {
       let was = h .each v l in
       let more = in-degree-full-eight rows m v in
       let most = in-degree-split rows (full capacity) (full (m + 8)) v (record { at = λ u i. in-full capacity u (omega (arith, of-full (m + 8) u i)) }) in
-      let sum = p .sum v (omega arith) in
+      let sum = plus-sum p v (omega arith) in
       omega arith;
 }
 
-pub prefix-end : {rows : ℕ → ℕ} {m : ℕ} {ps qs : List ℕ} → Prefix rows m ps qs → m ≡ capacity → 2 ^ length ps ≡ 2 * half → Plus (inDegree rows (full capacity)) ps qs
+pub prefix-end : {rows : ℕ → ℕ} {m : ℕ} {ps qs : List ℕ} → Prefix rows m ps qs → m ≡ capacity → 2 ^ length ps ≡ 2 * half → AddsTo (inDegree rows (full capacity)) ps qs
 prefix-end {rows} h e f = record { sum = λ v l. omega (arith, h .each v (omega arith), ap (λ (x : ℕ). inDegree rows (full x) v) e) }
 
 -- a set that has all badges
@@ -92,24 +92,24 @@ adding-start rows s ps = record { each = λ v l. refl }
 pub adding-more : {rows : ℕ → ℕ} {s unseen rest : ℕ} {ps qs rs : List ℕ} → Adding rows s unseen ps qs → AddsSome rows unseen rest qs rs → Adding rows s rest ps rs
 adding-more h a = record { each = λ v l. let was = h .each v l in a .each v (omega arith) ∙ was }
 
-pub adding-end : {rows : ℕ → ℕ} {s unseen : ℕ} {ps qs : List ℕ} → Adding rows s unseen ps qs → unseen ≡ 0 → 2 ^ length ps ≡ 2 * half → Plus (inDegree rows s) ps qs
+pub adding-end : {rows : ℕ → ℕ} {s unseen : ℕ} {ps qs : List ℕ} → Adding rows s unseen ps qs → unseen ≡ 0 → 2 ^ length ps ≡ 2 * half → AddsTo (inDegree rows s) ps qs
 adding-end {rows} h e f = record { sum = λ v l. omega (arith, h .each v (omega arith), ap (λ (x : ℕ). inDegree rows x v) e, in-degree-none rows v) }
 
 -- The complement of the sums counts.
 pub counting-start : {rows : ℕ → ℕ} {s start k : ℕ} {ps qs rs : List ℕ} → s < 2 ^ capacity → start + k ≡ half → 1 ≤ k → 2 ^ length ps ≡ 2 * half → 2 ^ length qs ≡ 2 * half
-    → Constant start ps → Plus (inDegree rows s) ps qs → Complement qs rs → Counting rows s k rs
+    → Constant start ps → AddsTo (inDegree rows s) ps qs → Complement qs rs → Counting rows s k rs
 counting-start {rows} {s} w e l f g c p n = record {
   each = λ v m.
       let few = in-degree-le rows s v in
       let small = size-le capacity s w in
-      let one = c .each v m (omega arith) in
+      let one = constant-each c v m (omega arith) in
       let two = p .sum v (omega arith) in
       let three = n .sum v m in
       omega arith;
 }
 
 -- A part of s is counted no longer.
-pub counting-less : {rows : ℕ → ℕ} {s t k : ℕ} {ps qs : List ℕ} → Counting rows s k ps → k ≤ half → Sub t s → 2 ^ length ps ≡ 2 * half → Plus (inDegree rows t) ps qs
+pub counting-less : {rows : ℕ → ℕ} {s t k : ℕ} {ps qs : List ℕ} → Counting rows s k ps → k ≤ half → Sub t s → 2 ^ length ps ≡ 2 * half → AddsTo (inDegree rows t) ps qs
     → Counting rows (difference s t) k qs
 counting-less {rows} {s} {t} h l b e p = record {
   each = λ v m.
@@ -125,6 +125,6 @@ counting-raised h l e p = record {
   each = λ v m.
       let was = h .each v m in
       let one = every-in v m in
-      let sum = p .sum v (omega arith) in
+      let sum = plus-sum p v (omega arith) in
       omega arith;
 }

@@ -3,8 +3,9 @@ use mathlib.Core.Bool.{true}
 use mathlib.Core.Path.{_≡_}
 use mathlib.Core.List.{List}
 use mathlib.Core.Logic.{_⊎_}
-use Prim.Native.Nat.{ℕ, _+_, _*_, _≤_, _<_}
+use Prim.Native.Nat.{ℕ, _+_, _*_, _^_, _≤_, _<_}
 use lib.Dec.{ltb}
+use lib.ListN.{length}
 use Rattle.sets.specs.Bools.{_and_}
 use Rattle.sets.specs.Sets.{bit, Sub, isSub, size}
 use Rattle.sets.specs.Members.{capacity}
@@ -18,6 +19,10 @@ pub record TakesRow (rows : ℕ → ℕ) (s row rest : ℕ) : Type 0 where
   pub falls : 0 < s → size rest < size s
   pub never-rises : size rest ≤ size s
   pub each : (v : ℕ) → inDegree rows s v ≡ bit row v + inDegree rows rest v
+
+-- x v is added in each lane v in which there is room for the sum
+pub record AddsTo (x : ℕ → ℕ) (ps qs : List ℕ) : Type 0 where
+  pub sum : (v : ℕ) → lane ps v + x v < 2 ^ length ps → lane qs v ≡ lane ps v + x v
 
 -- the rows of some members of s are added, those of the others not yet
 pub record AddsSome (rows : ℕ → ℕ) (s unseen : ℕ) (ps qs : List ℕ) : Type 0 where

@@ -2,10 +2,10 @@
 ghost use Prim.Native.Nat.{_≤_};
 ghost use Rattle.sets.specs.Members.{members, capacity};
 ghost use Rattle.sets.specs.Sets.{full};
-ghost use Rattle.planes.specs.Lanes.{planesOf, half, Plus};
+ghost use Rattle.planes.specs.Lanes.{planesOf, half};
 ghost use Rattle.cores.specs.Rows.{graph};
 ghost use Rattle.innermost.specs.Columns.{inDegree};
-ghost use Rattle.innermost.specs.Counting.{TakesRow, AddsSome, Counting};
+ghost use Rattle.innermost.specs.Counting.{TakesRow, AddsSome, AddsTo, Counting};
 use planes::Planes;
 use sets::BadgeSet;
 
@@ -54,7 +54,7 @@ fn add_eight_rows(p: Planes, rows: &[u64; 64], s: BadgeSet) -> Summed
 
 // Adds the rows of all badges.
 fn add_all(p: Planes, rows: &[u64; 64]) -> Planes
-    ensures { λ r. ⌜ Plus (inDegree (graph (now (rows .entry))) (full capacity)) (planesOf p) (planesOf r) ⌝ }
+    ensures { λ r. ⌜ AddsTo (inDegree (graph (now (rows .entry))) (full capacity)) (planesOf p) (planesOf r) ⌝ }
 {
     let mut out = p;
     let mut at: usize = 0;
@@ -78,7 +78,7 @@ fn add_all(p: Planes, rows: &[u64; 64]) -> Planes
 
 // Adds the rows of the members of a set, eight at a time.
 fn add_by_eight(p: Planes, rows: &[u64; 64], s: BadgeSet) -> Planes
-    ensures { λ r. ⌜ Plus (inDegree (graph (now (rows .entry))) (members s)) (planesOf p) (planesOf r) ⌝ }
+    ensures { λ r. ⌜ AddsTo (inDegree (graph (now (rows .entry))) (members s)) (planesOf p) (planesOf r) ⌝ }
 {
     let mut out = p;
     let mut unseen = s;
@@ -107,7 +107,7 @@ pub(crate) fn count(rows: &[u64; 64], s: BadgeSet, k: usize) -> Planes
 
 // Counts the members of a set no longer: each of their rows is added, two at a time, since the in-degree of each badge in it falls by 1.
 pub(crate) fn discount(p: Planes, rows: &[u64; 64], s: BadgeSet) -> Planes
-    ensures { λ r. ⌜ Plus (inDegree (graph (now (rows .entry))) (members s)) (planesOf p) (planesOf r) ⌝ }
+    ensures { λ r. ⌜ AddsTo (inDegree (graph (now (rows .entry))) (members s)) (planesOf p) (planesOf r) ⌝ }
 {
     let mut out = p;
     let mut unseen = s;

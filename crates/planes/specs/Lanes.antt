@@ -2,7 +2,7 @@
 -- How many planes the program has is said by its type, and named by `planeCount`; no other definition here has a number of planes.
 use mathlib.Core.Path.{_≡_}
 use mathlib.Core.List.{List, [], _∷_}
-use Prim.Native.Nat.{ℕ, _+_, _-_, _*_, _^_, _≤_, _<_}
+use Prim.Native.Nat.{ℕ, _+_, _-_, _*_, _%_, _^_, _≤_, _<_}
 use lib.ListN.{length}
 use Rattle.sets.specs.Sets.{bit, In}
 use Rattle.sets.specs.Members.{wordBits}
@@ -31,13 +31,13 @@ half = 2 ^ (planeCount - 1)
 pub record FullAdder (a b c high low : ℕ) : Type 0 where
   pub sum : (v : ℕ) → bit a v + bit b v + bit c v ≡ 2 * bit high v + bit low v
 
--- x v is added in each lane v in which there is room for the sum
+-- x v is added in each lane v; a sum for which there is no room loses its highest digits
 pub record Plus (x : ℕ → ℕ) (ps qs : List ℕ) : Type 0 where
-  pub sum : (v : ℕ) → lane ps v + x v < 2 ^ length ps → lane qs v ≡ lane ps v + x v
+  pub lanes : (v : ℕ) → lane qs v ≡ (lane ps v + x v) % 2 ^ length ps
 
--- x is in every lane of a word, if there is room for it
+-- x is in every lane of a word, without the digits for which there is no room
 pub record Constant (x : ℕ) (ps : List ℕ) : Type 0 where
-  pub each : (v : ℕ) → v < wordBits → x < 2 ^ length ps → lane ps v ≡ x
+  pub lanes : (v : ℕ) → v < wordBits → lane ps v ≡ x % 2 ^ length ps
 
 -- the numbers of the two add up to the largest number that there is room for
 pub record Complement (ps qs : List ℕ) : Type 0 where

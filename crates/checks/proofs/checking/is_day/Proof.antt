@@ -21,7 +21,7 @@ use Rattle.checks.specs.Changes.{change}
 use Rattle.days.proofs.Days.{tick-fits}
 use Rattle.checks.proofs.Changes.{change-of}
 use Rattle.days.proofs.Scan.{day-in}
-use Rattle.checks.proofs.TickRows.{united-none}
+use Rattle.checks.proofs.TickRows.{unites, united-none}
 use Rattle.checks.proofs.Scan.{row-none, ValidRow, LeftAt, left-none, Walked, walk-none, walk-lt, walk-member, walk-broken, walk-more, walk-done, tick-done, day-broken}
 use Rattle.checks.proofs.checking.is_day.Statement.{statement}
 use Rattle.checks.proofs.checking.is_day.Tie as tie
@@ -158,7 +158,7 @@ scan-again c =
     let day = p .before .before .before .scan .inv .1 in
     let e = eqb-true _ _ (sym (c .before .is-empty .ensures) ∙ c .if1 .taken) in
     let same = p .put-changes .ensures .at in
-    (search needs, below-more _ _ day (change-of _ _ _ day (tick-done _ _ (λ u l. row-none _ _ _ (sym (same u l) ∙ united-none (w .united .ensures) e u (omega arith))))), search needs)
+    (search needs, below-more _ _ day (change-of _ _ _ day (tick-done _ _ (λ u l. row-none _ _ _ (sym (same u l) ∙ united-none (unites _ (w .united .ensures)) e u (omega arith))))), search needs)
 
 loop-holds : tie.Need-loop-holds Inv-loop2 μ-loop2 Inv-loop μ-loop Inv-scan μ-scan
 loop-holds c = (search needs, below-none _, search needs, left-none _ _ (c .before .before .before .before .put-changes .ensures .at))

@@ -1,21 +1,25 @@
--- `united` meets its contract: before the turn of row u the set has every badge that is in a row before it.
-use Prim.Native.Nat.{_-_, _≤_}
+-- `united` meets its contract: before the turn of row u the set is the union of the rows before it.
+use mathlib.Core.Path.{_≡_, refl, ap, _∙_}
+use Prim.Native.Nat.{ℕ, _-_, _≤_}
 use native.Mathlib.Omega.{arith}
+use lib.ListN.{getD}
 use borrow.Author.Needs.{needs}
 use Rattle.sets.specs.Sets.{union}
 use Rattle.sets.specs.Members.{capacity}
-use Rattle.checks.proofs.TickRows.{Uniting, uniting-none, uniting-more, uniting-all}
+use Rattle.checks.specs.Arrays.{unionOf}
+use Rattle.checks.proofs.TickRows.{union-more}
 use Rattle.checks.proofs.rows.united.Statement.{statement}
 use Rattle.checks.proofs.rows.united.Tie as tie
 
 abbrev Inv-loop : tie.InvT-loop
-Inv-loop rows all₀ u₀ all u = (u ≤ capacity) × Uniting rows u all
+Inv-loop rows all₀ u₀ all u = (u ≤ capacity) × (all ≡ unionOf u rows)
 
 abbrev μ-loop : tie.MeasureT-loop
 μ-loop rows all₀ u₀ all u = capacity - u
 
 loop-holds : tie.Need-loop-holds Inv-loop μ-loop
-loop-holds c = (search needs, uniting-none _)
+unfolding unionOf
+loop-holds c = (search needs, refl)
 
 mul-all : tie.Need-mul-all Inv-loop μ-loop
 mul-all c = search needs
@@ -31,13 +35,16 @@ loop-less c = search needs
 
 loop-again : tie.Need-loop-again Inv-loop μ-loop
 unfolding union
-loop-again c = (search needs, uniting-more (c .before .before .loop .inv .1))
+loop-again c = (search needs, ap (λ (x : ℕ). union x (getD (c .before .before .before .args .rows .now) (c .before .before .loop .u) 0)) (c .before .before .loop .inv .1) ∙ union-more _ _)
 
 from-word-requires : tie.Need-from-word-requires Inv-loop μ-loop
 from-word-requires c κs = search needs
 
 returns : tie.Need-returns Inv-loop μ-loop
-returns c = rw (c .from-word .ensures) (uniting-all (c .before .before .loop .inv .1) (omega (arith, c .before .loop-test .left)))
+returns c =
+    let l = c .before .before in
+    let e : l .loop .u ≡ capacity = omega (arith, c .before .loop-test .left) in
+    c .from-word .ensures ∙ l .loop .inv .1 ∙ ap (λ (x : ℕ). unionOf x (l .before .args .rows .now)) e
 
 pub united-spec : {M : Type 1} → statement M
 united-spec =

@@ -6,6 +6,7 @@ use lib.ListN.{length, getD}
 use borrow.Author.Needs.{needs}
 use Rattle.sets.specs.Members.{members}
 use Rattle.records.proofs.WithinLimits.{limits-of}
+use Rattle.checks.proofs.TickRows.{unites}
 use Rattle.innermost.proofs.Columns.{symmetric-highest}
 use Rattle.groups.proofs.Narrowing.{going-start, going-size}
 use Rattle.groups.proofs.RowCores.{rows-symmetric, within}
@@ -117,7 +118,7 @@ loop-again-2 c =
     let p = i .before .before .before .before .before .before .before .pre in
     let s = asked i .span in
     let e = n .narrow-to .ensures in
-    let b = h .before .united .ensures in
+    let b = unites _ (h .before .united .ensures) in
     let q = symmetric-highest (rows-symmetric s e _ (within s e b)) (h .highest-core .ensures) in
     finding-next (p .0) (p .1) (p .2) (i .before .loop .inv) (i .loop-test .taken) (core-found (asked i) e b (q .order) (c .to-word .ensures ∙ q .members))
 
