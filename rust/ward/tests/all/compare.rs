@@ -143,12 +143,15 @@ fn tick(random: &mut Random, ticks: usize) -> usize {
     if random.below(16) == 0 { usize::MAX - random.below(2) } else { random.below(ticks.min(96) + 1) }
 }
 
-/// Every call on words, into buffers of about the exact size.
+/// Every call on words, into buffers of about the exact size, and the report into larger ones.
 fn compare_words(random: &mut Random, words: &[u64], n: usize, ticks: usize) {
     let day = Handed::new(words, n, ticks);
     let mut room = |answer: Result<Vec<u8>, _>| near(random, answer.map_or(40, |bytes| bytes.len()));
     _ = day.write(room(day.log()));
     _ = day.report(room(day.groups(PLAIN)));
+    // about as much as a group on each span takes: with that much the call makes the report in the buffer, with less in memory of its own
+    let spans = ticks.min(96) * (ticks.min(96) + 1) / 2;
+    _ = day.report(near(random, 10 + 13 * spans));
     let least = random_least(random, n, ticks);
     let room = near(random, day.groups(least).map_or(40, |bytes| bytes.len()));
     _ = day.filtered(least, room);
