@@ -19,8 +19,9 @@ pub enum Checked {
 }
 
 // Whether the words are a day: the search goes tick by tick and badge by badge, and stops at the first pair that breaks it. After a tick of a day
-// only a pair that changes can break the next, so it looks at the changes alone, and passes over a tick and a row without any. It looks at each pair once: the walk over u's row takes u out of
-// the rows of the others. A row's own bit and its bits from n up are tested at once, before its set bits are walked for one that has no mirror.
+// only a pair that changes can break the next, so it looks at the changes alone, and passes over a tick and a row without any. It looks at each
+// pair once: the walk over u's row takes u out of the rows of the others. A row's own bit and its bits from n up are tested at once, before its
+// set bits are walked for one that has no mirror.
 fn is_day(words: &[u64], n: usize, ticks: usize) -> bool
     requires { ⌜ (n ≤ maxBadges) × (wordsFor n ticks ≤ length (now words)) ⌝ }
     ensures { λ r. ⌜ r ≡ isDay n ticks (now (words .entry)) ⌝ }

@@ -103,8 +103,8 @@ fn settle(rows: &[u64; 64], given: Counted, query: BadgeSet, k: usize) -> Counte
     }
 }
 
-// Where to begin, for orders above one and up to another, in a base that contains the query. The base is the core of every order up to its least in-degree: where many orders are to be
-// tried, those up to it are left out.
+// Where to begin, for orders above one and up to another, in a base that contains the query. The base is the core of every order up to its least
+// in-degree: where many orders are to be tried, those up to it are left out.
 fn start(rows: &[u64; 64], base: BadgeSet, query: BadgeSet, above: u8, stop: u8) -> Beginning
     requires { ⌜ (above < stop) × (stop ≤ capacity) × ((ltb 0 (members base) and isSub (members query) (members base)) ≡ true) ⌝ }
     ensures { λ r. ⌜ Climbing (graph (now (rows .entry))) (members base) (members query) above stop (r .order) (members (r .found)) (members base) (planesOf (r .planes)) ⌝ }
