@@ -1,5 +1,5 @@
-/* Reads the log that its first argument names, prints its groups, and the plan around the badge and into the parts that the second and third
- * argument give. Build, from the repository's root, after `rt staticlib ward`:
+/* Reads the log that its first argument names, prints its groups, those that are left without the badges of the cleaning staff, and the plan around
+ * the badge and into the parts that the second and third argument give. Build, from the repository's root, after `rt staticlib ward`:
  *     cc -Iinclude examples/groups.c target/staticlib/libward.a -o groups
  *     ./groups examples/ward.log 1 3 */
 #include <stdio.h>
@@ -8,8 +8,11 @@
 #include "show.h"
 #include "ward.h"
 
+/* Badges 1 and 3. */
+#define CLEANING_STAFF ((uint64_t)1 << 1 | (uint64_t)1 << 3)
+
 int main(int argc, char **argv) {
-    static uint8_t log[WARD_LOG_BYTES + 1], report[WARD_REPORT_BYTES], plan[WARD_PLAN_BYTES];
+    static uint8_t log[WARD_LOG_BYTES + 1], plan[WARD_PLAN_BYTES];
     static uint64_t words[WARD_WORDS];
     uint64_t answer[5];
     if (argc != 4) {
@@ -21,14 +24,14 @@ int main(int argc, char **argv) {
     ward_read(log, size, words, WARD_WORDS, answer);
     check(answer);
     size_t badges = answer[WARD_BADGES], ticks = answer[WARD_TICKS];
+    uint64_t everyone = ward_all_badges(badges);
 
-    /* thresholds 1, 1 and 2: every group */
-    ward_report(words, WARD_WORDS, badges, ticks, 1, 1, 2, report, sizeof report, answer);
-    check(answer);
-    print_records("order", report, 4, answer[WARD_COUNT]);
+    print_groups(words, badges, ticks, everyone);
+    printf("without badges 1 and 3\n");
+    print_groups(words, badges, ticks, everyone & ~CLEANING_STAFF);
 
     size_t badge = strtoul(argv[2], NULL, 10) % 64, parts = strtoul(argv[3], NULL, 10);
-    ward_plan(words, WARD_WORDS, badges, ticks, (uint64_t)1 << badge, parts, plan, sizeof plan, answer);
+    ward_plan(words, WARD_WORDS, badges, ticks, everyone, (uint64_t)1 << badge, parts, plan, sizeof plan, answer);
     check(answer);
     print_records("score", plan, 13, answer[WARD_COUNT]);
     return 0;

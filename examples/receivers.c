@@ -9,7 +9,7 @@
 #include "ward.h"
 
 int main(int argc, char **argv) {
-    static uint8_t logs[4 * (WARD_LOG_BYTES + 1)], report[WARD_REPORT_BYTES];
+    static uint8_t logs[4 * (WARD_LOG_BYTES + 1)];
     static uint64_t words[WARD_WORDS], work[WARD_JOIN_WORK_WORDS];
     size_t lengths[4], receivers = 0, size = 0;
     uint64_t answer[5];
@@ -25,10 +25,6 @@ int main(int argc, char **argv) {
     ward_join(logs, size, lengths, receivers, strtoul(argv[1], NULL, 10), words, WARD_WORDS, work, WARD_JOIN_WORK_WORDS, answer);
     check(answer);
     size_t badges = answer[WARD_BADGES], ticks = answer[WARD_TICKS];
-
-    /* thresholds 1, 1 and 2: every group */
-    ward_report(words, WARD_WORDS, badges, ticks, 1, 1, 2, report, sizeof report, answer);
-    check(answer);
-    print_records("order", report, 4, answer[WARD_COUNT]);
+    print_groups(words, badges, ticks, ward_all_badges(badges));
     return 0;
 }

@@ -1,4 +1,4 @@
-/* What the examples share: reading a file, ending where a call was refused, printing the records of a report or a plan. */
+/* What the examples share: reading a file, ending where a call was refused, printing the records of a report or a plan, and the groups of a day. */
 #ifndef SHOW_H
 #define SHOW_H
 
@@ -38,6 +38,15 @@ static void print_records(const char *what, const uint8_t *bytes, size_t header,
                 printf(" %d", u);
         printf("\n");
     }
+}
+
+/* The groups of a day among the badges under review, a set with bit u for badge u. Thresholds 1, 1 and 2 keep every group. */
+static void print_groups(const uint64_t *words, size_t badges, size_t ticks, uint64_t review) {
+    static uint8_t report[WARD_REPORT_BYTES];
+    uint64_t answer[5];
+    ward_report(words, WARD_WORDS, badges, ticks, review, 1, 1, 2, report, sizeof report, answer);
+    check(answer);
+    print_records("order", report, 4, answer[WARD_COUNT]);
 }
 
 #endif

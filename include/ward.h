@@ -68,8 +68,13 @@ enum {
     WARD_WRITE_TOO_MANY = 15,         /* the tidy log would need more than 8,000 contact records */
     WARD_THRESHOLD_OUT_OF_RANGE = 17, /* least ticks not 1 to 96, least order not 1 to 63, or least members not 2 to 64 */
     WARD_INVALID_RECEIVERS = 18,      /* not 2 to 4 logs, a quorum that is not 1 to their number, or lengths that do not add up to the bytes */
-    WARD_DIFFERENT_SHIFTS = 19        /* the badges or ticks of a log differ from the first log's */
+    WARD_DIFFERENT_SHIFTS = 19,       /* the badges or ticks of a log differ from the first log's */
+    WARD_INVALID_REVIEW = 20,         /* no badge is under review, or one that the day does not have, whatever others are */
+    WARD_QUERY_NOT_REVIEWED = 21      /* the query has a badge that is not under review */
 };
+
+/* The set of all badges of a day, to review them all: bit u for badge u. 64 badges and more give every bit. */
+static inline uint64_t ward_all_badges(size_t badges) { return badges < 64 ? ((uint64_t)1 << badges) - 1 : UINT64_MAX; }
 
 /* Reads a log into day words: word t * badges + u has bit v set exactly when u and v are in contact in tick t. On success every one of the
  * first badges * ticks words is set. Refused by 1 to 7, in the log's own order, then 8. */
@@ -91,23 +96,30 @@ void ward_tidy(const uint8_t *log, size_t log_len, uint64_t *work, size_t work_l
 /* Writes day words as their tidy log. Refused by 10, 8, 11, 15, 9. */
 void ward_write(const uint64_t *words, size_t words_len, size_t badges, size_t ticks, uint8_t *out, size_t out_len, uint64_t answer[5]);
 
+/* The three calls below take a set of badges under review, with bit u for badge u: they work out cores among these badges alone, as if no other badge
+ * had been in contact with anybody. The set has one badge at least, and none that the day does not have. */
+
 /* The core number of each badge on the span from tick first to tick last, both counted, one byte a badge: the largest k such that the badge
- * is in a set whose members each stay in contact, throughout the span, with k or more others of it. Refused by 10, 8, 11, 12, 9. */
-void ward_core_numbers(const uint64_t *words, size_t words_len, size_t badges, size_t ticks, size_t first, size_t last, uint8_t *out, size_t out_len,
-                       uint64_t answer[5]);
+ * is in a set of reviewed badges whose members each stay in contact, throughout the span, with k or more others of it. A badge that is not under review
+ * has 0. Refused by 10, 8, 11, 20, 12, 9. */
+void ward_core_numbers(const uint64_t *words, size_t words_len, size_t badges, size_t ticks, uint64_t review, size_t first, size_t last, uint8_t *out,
+                       size_t out_len, uint64_t answer[5]);
 
 /* The report of the day's groups, the maximal span-cores, by first tick and then last tick: RH, badges, ticks; for each group GR, order, first tick,
- * last tick, members as a set of 8 bytes, the lowest first; ED and their number in 4 bytes. It keeps the groups that last least_ticks ticks or more, are
- * of order least_order or more and have least_members members or more; which cores are maximal is judged before that, among all of them. 1, 1 and 2 keep
- * every group. Whatever badges and ticks are, least_ticks may be 1 to 96, least_order 1 to 63 and least_members 2 to 64. Refused by 10, 8, 11, 17, 9. */
-void ward_report(const uint64_t *words, size_t words_len, size_t badges, size_t ticks, size_t least_ticks, size_t least_order, size_t least_members,
-                 uint8_t *out, size_t out_len, uint64_t answer[5]);
+ * last tick, members as a set of 8 bytes, the lowest first; ED and their number in 4 bytes. Which cores are maximal is judged among those of the
+ * reviewed badges alone: with fewer badges under review a group may be smaller or gone, and one may appear that a core with the others kept out. Of
+ * the groups the report then keeps those that last least_ticks ticks or more, are of order least_order or more and have least_members members or more.
+ * 1, 1 and 2 keep every group. Whatever badges and ticks are, least_ticks may be 1 to 96, least_order 1 to 63 and least_members 2 to 64. Refused by 10,
+ * 8, 11, 20, 17, 9. */
+void ward_report(const uint64_t *words, size_t words_len, size_t badges, size_t ticks, uint64_t review, size_t least_ticks, size_t least_order,
+                 size_t least_members, uint8_t *out, size_t out_len, uint64_t answer[5]);
 
-/* The plan of the shift around a query, a set with bit u for badge u: cuts the day into so many parts with the greatest sum of scores, and of such
- * cuttings it is the one whose list of last ticks comes first, compared number by number. PH, badges, ticks, parts, query in 8 bytes; for each part PT,
- * score, first tick, last tick, members; ED and their number. Refused by 10, 8, 11, 13, 14, 9. */
-void ward_plan(const uint64_t *words, size_t words_len, size_t badges, size_t ticks, uint64_t query, size_t parts, uint8_t *out, size_t out_len,
-               uint64_t answer[5]);
+/* The plan of the shift around a query, a set of reviewed badges, and perhaps of none: cuts the day into so many parts with the greatest sum of scores,
+ * and of such cuttings it is the one whose list of last ticks comes first, compared number by number. PH, badges, ticks, parts, query in 8 bytes; for
+ * each part PT, score, first tick, last tick, members; ED and their number. A part of score 0 shows all badges under review. Refused by 10, 8, 11, 20,
+ * 13, 21, 14, 9; the empty query never by 21. */
+void ward_plan(const uint64_t *words, size_t words_len, size_t badges, size_t ticks, uint64_t review, uint64_t query, size_t parts, uint8_t *out,
+               size_t out_len, uint64_t answer[5]);
 
 #ifdef __cplusplus
 }

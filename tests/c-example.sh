@@ -23,10 +23,13 @@ try() {
     fi
 }
 
+# Without badge 1, badges 0 and 2 are a group that the list of all groups does not have; without badge 3, badge 4 is in none.
 try groups examples/ward.log 1 3 3<<'TEXT'
 order 2 ticks 0 to 1 badges 0 1 2
 order 1 ticks 0 to 2 badges 0 1 2
 order 1 ticks 1 to 3 badges 3 4
+without badges 1 and 3
+order 1 ticks 0 to 1 badges 0 2
 score 2 ticks 0 to 0 badges 0 1 2
 score 2 ticks 1 to 1 badges 0 1 2
 score 0 ticks 2 to 3 badges 0 1 2 3 4
@@ -36,11 +39,15 @@ TEXT
 try groups crates/listing/stdin 0 1 3<<'TEXT'
 order 2 ticks 0 to 1 badges 0 1 2
 order 1 ticks 0 to 2 badges 2 3
+without badges 1 and 3
+order 1 ticks 0 to 1 badges 0 2
 score 0 ticks 0 to 2 badges 0 1 2 3
 TEXT
 try groups crates/listing/stdin 2 4 3<<'TEXT'
 order 2 ticks 0 to 1 badges 0 1 2
 order 1 ticks 0 to 2 badges 2 3
+without badges 1 and 3
+order 1 ticks 0 to 1 badges 0 2
 refused 14 at 0
 TEXT
 

@@ -1,11 +1,12 @@
 #!/usr/bin/env bash
 # Counts the instructions of one call on each day of the benchmark, in millions: figures that repeat. One table has the plain report, made by the
 # engine and by each baseline, and 'filtered', the engine's report of the groups that last 4 ticks or more, are of order 2 or more and have 3 members or
-# more: it should take no more instructions than the plain one, and how many fewer it takes, one by one, stands last. The second table has the plan
-# around badges 0 and 1 in 8 and in 32 parts, made by the engine and, as 'bitplan', by the baseline with bitsets. The third has the engine's core
-# numbers of ticks 0 to 3, write, and read and tidy of the day's log. The fourth has the join of the logs of 2 and of 4 receivers at quorum 2, each with
-# each run of the day's log with probability 3/4, and before it the reads of the same logs, one after the other. In both there is a '-' where a day has
-# no log, having more than 8,000 runs. Each count is of one call, or of the reads of 2 or 4 logs, in a new process.
+# more: it should take no more instructions than the plain one, and how many fewer it takes, one by one, stands last but one; and 'half', the engine's
+# report with the lower half of the badges under review, whose ratio to the plain one stands last. All other calls review all badges. The second table
+# has the plan around badges 0 and 1 in 8 and in 32 parts, made by the engine and, as 'bitplan', by the baseline with bitsets. The third has the
+# engine's core numbers of ticks 0 to 3, write, and read and tidy of the day's log. The fourth has the join of the logs of 2 and of 4 receivers at
+# quorum 2, each with each run of the day's log with probability 3/4, and before it the reads of the same logs, one after the other. In both there is a
+# '-' where a day has no log, having more than 8,000 runs. Each count is of one call, or of the reads of 2 or 4 logs, in a new process.
 # Needs cargo, valgrind, and target/staticlib/libward.a, which `rt staticlib ward` writes. Its arguments are the days, all six if there are none.
 set -euo pipefail
 source "$(dirname "${BASH_SOURCE[0]}")/counting.sh"
@@ -16,18 +17,18 @@ millions() { awk -v count="$1" 'BEGIN { printf "%12s", count == 0 ? "-" : sprint
 ratio() { awk -v a="$1" -v b="$2" 'BEGIN { printf "%s", b == 0 ? "-" : sprintf("%.2f", a / b) }'; }
 
 declare -A counts
-reports=(engine lists algorithm2 bitsets filtered)
+reports=(engine lists algorithm2 bitsets filtered half)
 printf '%-20s' "report, millions"
 printf '%12s' "${reports[@]}"
-printf '%16s%14s%17s\n' "engine/bitsets" "lists/engine" "engine-filtered"
+printf '%16s%14s%17s%13s\n' "engine/bitsets" "lists/engine" "engine-filtered" "half/engine"
 for day in "$@"; do
     printf '%-20s' "$day"
     for call in "${reports[@]}"; do
         counts[$call]=$(count "$day" "$call")
         millions "${counts[$call]}"
     done
-    printf '%16s%14s%17s\n' "$(ratio "${counts[engine]}" "${counts[bitsets]}")" "$(ratio "${counts[lists]}" "${counts[engine]}")" \
-        "$((counts[engine] - counts[filtered]))"
+    printf '%16s%14s%17s%13s\n' "$(ratio "${counts[engine]}" "${counts[bitsets]}")" "$(ratio "${counts[lists]}" "${counts[engine]}")" \
+        "$((counts[engine] - counts[filtered]))" "$(ratio "${counts[half]}" "${counts[engine]}")"
 done
 
 printf '\n%-20s' "plan, millions"

@@ -95,6 +95,18 @@ static size_t threshold(size_t from, size_t to) {
     return below(20) == 0 ? odd[below(5)] : from + below(3);
 }
 
+/* Badges under review: mostly many of those that a day of n has, sometimes none, and sometimes any. */
+static uint64_t random_review(size_t n) {
+    uint64_t many = next() | next();
+    return below(20) == 0 ? 0 : below(20) == 0 ? many : many & ward_all_badges(n);
+}
+
+/* A query: mostly few of the badges under review, and else few up to badge n. */
+static uint64_t random_query(size_t n, uint64_t review) {
+    uint64_t few = next() & next() & next();
+    return few & (below(4) == 0 ? ward_all_badges(n + 1) : review);
+}
+
 /* Random logs end to end, mostly of one shift, and their lengths; gives how many bytes. Sometimes a length is off by one, and perhaps another so that
  * the sum is still right. Sometimes the bytes are cut, and the last length with them: if the cut is longer, the sum of the lengths is right only by going
  * round, and a log reaches beyond the bytes. */
@@ -126,13 +138,14 @@ static size_t about(size_t needed) {
 #define GIVES(number) ((uint32_t)1 << (number))
 #define LOG (GIVES(WARD_TRAILING_BYTES + 1) - GIVES(WARD_CUT_SHORT))
 #define CHECK (GIVES(WARD_SIZE_OUT_OF_LIMITS) | GIVES(WARD_TOO_FEW_WORDS) | GIVES(WARD_NOT_A_DAY) | GIVES(WARD_BUFFER_TOO_SHORT))
+#define REVIEW (CHECK | GIVES(WARD_INVALID_REVIEW))
 static const uint32_t refusals[CALLS] = {LOG | GIVES(WARD_TOO_FEW_WORDS),
                                          LOG | GIVES(WARD_TOO_FEW_WORDS) | GIVES(WARD_INVALID_RECEIVERS) | GIVES(WARD_DIFFERENT_SHIFTS),
                                          LOG | GIVES(WARD_TOO_FEW_WORDS) | GIVES(WARD_BUFFER_TOO_SHORT),
                                          CHECK | GIVES(WARD_WRITE_TOO_MANY),
-                                         CHECK | GIVES(WARD_INVALID_SPAN),
-                                         CHECK | GIVES(WARD_THRESHOLD_OUT_OF_RANGE),
-                                         CHECK | GIVES(WARD_FOREIGN_QUERY) | GIVES(WARD_INVALID_PARTS)};
+                                         REVIEW | GIVES(WARD_INVALID_SPAN),
+                                         REVIEW | GIVES(WARD_THRESHOLD_OUT_OF_RANGE),
+                                         REVIEW | GIVES(WARD_FOREIGN_QUERY) | GIVES(WARD_QUERY_NOT_REVIEWED) | GIVES(WARD_INVALID_PARTS)};
 
 /* Whether the five numbers, all ones before the call, are an answer: a refusal of the call by its number and offset, or a success by its values,
  * and else 0. */
@@ -179,10 +192,38 @@ static int join(size_t n, size_t ticks, uint64_t *answer) {
     return all_are(UINT64_MAX, words, day, words_len) && all_are(UINT64_MAX, work, count * day, work_len) && all_are(0, work, 0, count * day);
 }
 
+/* A call on a random log, lent words and bytes. */
+static void call_on_log(size_t call, size_t n, size_t ticks, uint64_t *words, size_t words_len, uint8_t *out, size_t out_len, uint64_t *answer) {
+    static uint8_t log[4096];
+    size_t size = fill_log(log, n, ticks);
+    uint8_t *bytes = flush(in, size);
+    memcpy(bytes, log, size);
+    writable(in, 0);
+    if (call == READ)
+        ward_read(bytes, size, words, words_len, answer);
+    else
+        ward_tidy(bytes, size, words, words_len, out, out_len, answer);
+    writable(in, 1);
+}
+
+/* A call on the words of a random day, or of none, lent bytes. */
+static void call_on_words(size_t call, size_t n, size_t ticks, uint64_t *words, size_t words_len, uint8_t *out, size_t out_len, uint64_t *answer) {
+    uint64_t review = random_review(n);
+    fill_words(words, words_len, n, ticks);
+    writable(words_at, 0);
+    if (call == WRITE)
+        ward_write(words, words_len, n, ticks, out, out_len, answer);
+    else if (call == CORE_NUMBERS)
+        ward_core_numbers(words, words_len, n, ticks, review, below(ticks % 99 + 1), below(ticks % 99 + 1), out, out_len, answer);
+    else if (call == REPORT)
+        ward_report(words, words_len, n, ticks, review, threshold(1, 96), threshold(1, 63), threshold(2, 64), out, out_len, answer);
+    else
+        ward_plan(words, words_len, n, ticks, review, random_query(n, review), below(9), out, out_len, answer);
+    writable(words_at, 1);
+}
+
 int main(int argc, char **argv) {
     size_t calls = argc > 1 ? strtoul(argv[1], NULL, 10) : 1000;
-    static uint8_t log[4096];
-    static uint64_t day[ROOM / 8];
     size_t succeeded[CALLS] = {0}, refused[CALLS] = {0};
     in = region();
     lengths_at = region();
@@ -198,32 +239,12 @@ int main(int argc, char **argv) {
         uint8_t *out = flush(out_at, out_len);
         int kept = 1;
         memset(answer, 255, 40);
-        if (call == JOIN) {
+        if (call == JOIN)
             kept = join(1 + n % 66, 1 + ticks % 98, answer);
-        } else if (call == READ || call == TIDY) {
-            size_t size = fill_log(log, 1 + n % 66, 1 + ticks % 98);
-            uint8_t *bytes = flush(in, size);
-            memcpy(bytes, log, size);
-            writable(in, 0);
-            if (call == READ)
-                ward_read(bytes, size, words, words_len, answer);
-            else
-                ward_tidy(bytes, size, words, words_len, out, out_len, answer);
-            writable(in, 1);
-        } else {
-            fill_words(day, words_len, n, ticks);
-            memcpy(words, day, words_len * 8);
-            writable(words_at, 0);
-            if (call == WRITE)
-                ward_write(words, words_len, n, ticks, out, out_len, answer);
-            else if (call == CORE_NUMBERS)
-                ward_core_numbers(words, words_len, n, ticks, below(ticks % 99 + 1), below(ticks % 99 + 1), out, out_len, answer);
-            else if (call == REPORT)
-                ward_report(words, words_len, n, ticks, threshold(1, 96), threshold(1, 63), threshold(2, 64), out, out_len, answer);
-            else
-                ward_plan(words, words_len, n, ticks, next() & next() & next() & (((uint64_t)2 << n % 64) - 1), below(9), out, out_len, answer);
-            writable(words_at, 1);
-        }
+        else if (call == READ || call == TIDY)
+            call_on_log(call, 1 + n % 66, 1 + ticks % 98, words, words_len, out, out_len, answer);
+        else
+            call_on_words(call, n, ticks, words, words_len, out, out_len, answer);
         if (!kept || !is_answer(call, answer)) {
             printf("call %zu, %s: not what the header says\n", i, names[call]);
             return 1;

@@ -17,7 +17,7 @@ static const char *const names[CALLS] = {"ward_read", "ward_join", "ward_tidy", 
 
 /* What the next call takes, and what the calls fill. */
 static int call;
-static uint64_t words[WARD_WORDS], query;
+static uint64_t words[WARD_WORDS], review, query;
 static uint8_t log_bytes[WARD_LOG_BYTES], logs[LOGS * WARD_LOG_BYTES];
 static size_t log_size, logs_size, lengths[LOGS], quorum, last, parts, least_ticks;
 static uint64_t work[WARD_WORDS], join_work[WARD_JOIN_WORK_WORDS], answer[5];
@@ -37,11 +37,11 @@ static void make_call(void) {
     else if (call == WRITE)
         ward_write(words, WARD_WORDS, N, TICKS, out, sizeof out, answer);
     else if (call == CORE_NUMBERS)
-        ward_core_numbers(words, WARD_WORDS, N, TICKS, 0, last, out, sizeof out, answer);
+        ward_core_numbers(words, WARD_WORDS, N, TICKS, review, 0, last, out, sizeof out, answer);
     else if (call == REPORT)
-        ward_report(words, WARD_WORDS, N, TICKS, least_ticks, 1, 2, out, sizeof out, answer);
+        ward_report(words, WARD_WORDS, N, TICKS, review, least_ticks, 1, 2, out, sizeof out, answer);
     else
-        ward_plan(words, WARD_WORDS, N, TICKS, query, parts, out, sizeof out, answer);
+        ward_plan(words, WARD_WORDS, N, TICKS, review, query, parts, out, sizeof out, answer);
 }
 
 /* How deep the call goes, by bytes that are not the pattern after it. */
@@ -112,10 +112,11 @@ static void fill_logs(void) {
         logs_size += lengths[i] = fill_log(logs + logs_size, 2 * i);
 }
 
-static void measure_words(void) {
+/* The calls that take badges under review, with these. */
+static void measure_review(uint64_t badges) {
     static const size_t many[] = {1, 2, 8, 48, TICKS};
-    static const uint64_t queries[] = {0, 3, UINT64_MAX};
-    measure(WRITE);
+    const uint64_t queries[] = {0, 3, badges};
+    review = badges;
     for (size_t i = 0; i < 5; i++) {
         least_ticks = many[i];
         measure(REPORT);
@@ -127,6 +128,13 @@ static void measure_words(void) {
             measure(PLAN);
         }
     }
+}
+
+/* All badges under review, and half of them. */
+static void measure_words(void) {
+    measure(WRITE);
+    measure_review(ward_all_badges(N));
+    measure_review(ward_all_badges(N / 2));
 }
 
 int main(void) {

@@ -97,11 +97,12 @@ pub(crate) fn writes(words: &[u64], day: Verdict) -> bool {
     writes_log(got, day, wanted.len) & holds(&buffer, wanted)
 }
 
-// Core numbers on a span.
+// Core numbers on a span. All badges are under review in this and the other calls on words.
 pub(crate) fn numbers(words: &[u64], day: Verdict, first: usize, last: usize) -> bool {
     let mut buffer = lent_bytes();
     let n = day.badges;
-    let got = groups::core_numbers(words, n, day.ticks, first, last, &mut buffer);
+    let all = BadgeSet::full(n);
+    let got = groups::core_numbers(words, n, day.ticks, all, first, last, &mut buffer);
     let wanted = reference::core_numbers(words, n, first, last);
     writes_groups(got, day, wanted.len) & holds(&buffer, wanted)
 }
@@ -109,8 +110,10 @@ pub(crate) fn numbers(words: &[u64], day: Verdict, first: usize, last: usize) ->
 // The plain report.
 pub(crate) fn reports(words: &[u64], day: Verdict) -> bool {
     let mut buffer = lent_bytes();
-    let got = groups::report(words, day.badges, day.ticks, Thresholds::PLAIN, &mut buffer);
-    let wanted = reference::report(words, day.badges, day.ticks);
+    let n = day.badges;
+    let all = BadgeSet::full(n);
+    let got = groups::report(words, n, day.ticks, all, Thresholds::PLAIN, &mut buffer);
+    let wanted = reference::report(words, n, day.ticks);
     writes_groups(got, day, wanted.len) & holds(&buffer, wanted)
 }
 
@@ -119,7 +122,8 @@ pub(crate) fn plans(words: &[u64], day: Verdict, query: u64, parts: usize) -> bo
     let mut buffer = lent_bytes();
     let n = day.badges;
     let set = BadgeSet::from_word(query);
-    let got = groups::plan(words, n, day.ticks, set, parts, &mut buffer);
+    let all = BadgeSet::full(n);
+    let got = groups::plan(words, n, day.ticks, all, set, parts, &mut buffer);
     let wanted = best_plan(words, n, day.ticks, query, parts);
     writes_groups(got, day, wanted.len) & holds(&buffer, wanted)
 }

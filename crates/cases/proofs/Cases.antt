@@ -129,6 +129,7 @@ example-holds =
     then refl
     then refl
     then refl
+    then refl
     then none
 
 pub requested-holds : AllHold requested
@@ -190,6 +191,35 @@ requested-holds =
     then refl
     then refl
     then refl
+    then refl
+    then refl
+    then refl
+    then refl
+    then refl
+    -- badges under review: what is counted, shown and planned
+    then refl
+    then refl
+    then refl
+    then refl
+    then refl
+    then refl
+    then refl
+    then refl
+    then refl
+    -- 20, and its place
+    then refl
+    then refl
+    then refl
+    then refl
+    then refl
+    then refl
+    then refl
+    then refl
+    then refl
+    then refl
+    then refl
+    then refl
+    -- 21, and its place
     then refl
     then refl
     then refl

@@ -27,10 +27,11 @@ use Rattle.spans.specs.SpanCores.{coreOn, hasCore}
 use Rattle.spans.specs.Reports.{asLarge, same, isMaximal, isGroup, groupsOn, groupsFrom, groupsOf}
 use Rattle.thresholds.specs.Ranges.{inRange, areEnough}
 use Rattle.spans.specs.KeptGroups.{meets, kept}
-use Rattle.spans.specs.Plans.{scoreOn, membersOn, partOn, partsFrom, partsOf, isQuery, isParts}
+use Rattle.spans.specs.Reviews.{isReview}
+use Rattle.spans.specs.Plans.{scoreOn, membersOn, partOn, partsFrom, partsOf, isQuery, isReviewedQuery, isParts}
 use Rattle.spans.specs.PlanStatement.{sumOfOrders}
 use Rattle.spans.specs.Encoding.{encodeCore, encodeCores, reportBytes, planBytes}
-use Rattle.groups.specs.Calls.{coreNumberBytes, spanJudged, coreNumbersOf, reportJudged, reportOf, planJudged, planOf}
+use Rattle.groups.specs.Calls.{reviewOf, coreNumberBytes, spanJudged, coreNumbersOf, reportJudged, reportOf, planJudged, planOf}
 use Rattle.text.specs.Decimal.{decimalIn, decimal}
 use Rattle.text.specs.Listing.{field, headLine, memberList, groupLine, refusalLine, reportLines, judgedLines, joined, listing}
 use Rattle.promises.specs.D1.{badges, d1Words}
@@ -40,7 +41,7 @@ use Rattle.cases.specs.Rows.{Holds}
 use Rattle.cases.specs.Table.{sevens, d1Log, d1Variant, d1Report, changingLog, changingWords, emptyLog, emptyWords, equalBadges, starred}
 use Rattle.cases.specs.Further.{nestedLog, nestedWords, further}
 use Rattle.cases.specs.Example.{exampleLog, exampleWords, exampleTidy, eastLog, westLog, bothWords, example}
-use Rattle.cases.specs.Requests.{triple, couple, nobody, missing, missingWords, repeating, repeatingWords, fourTicks, requested}
+use Rattle.cases.specs.Requests.{triple, couple, nobody, without2, without3, missing, missingWords, repeating, repeatingWords, fourTicks, requested}
 
 -- sets and lists
 sets-computing : ℕ
@@ -54,7 +55,7 @@ log-computing = 0
 
 -- cores, cuttings, and the calls of the group part
 groups-computing : ℕ
-unfolding log-computing degree strip strips core largest coreNumber contains score firstGreatest sumWith bestSum endAfter endsFrom bestEnds isSpan throughout spanNeighbours coreOn hasCore asLarge same isMaximal isGroup groupsOn groupsFrom groupsOf inRange areEnough meets kept scoreOn membersOn partOn partsFrom partsOf isQuery isParts sumOfOrders encodeCore encodeCores reportBytes planBytes coreNumberBytes spanJudged coreNumbersOf reportJudged reportOf planJudged planOf
+unfolding log-computing degree strip strips core largest coreNumber contains score firstGreatest sumWith bestSum endAfter endsFrom bestEnds isSpan throughout spanNeighbours coreOn hasCore asLarge same isMaximal isGroup groupsOn groupsFrom groupsOf inRange areEnough meets kept scoreOn membersOn partOn partsFrom partsOf isReview isQuery isReviewedQuery isParts sumOfOrders encodeCore encodeCores reportBytes planBytes reviewOf coreNumberBytes spanJudged coreNumbersOf reportJudged reportOf planJudged planOf
 groups-computing = 0
 
 -- the listing
@@ -64,5 +65,5 @@ text-computing = 0
 
 -- the tables
 unfoldable pub computing : ℕ
-unfolding text-computing badges tiesWords BH CT ED RH GR PH PT Holds sevens d1Log d1Words d1Variant d1Report changingLog changingWords emptyLog emptyWords equalBadges starred nestedLog nestedWords further exampleLog exampleWords exampleTidy eastLog westLog bothWords example triple couple nobody missing missingWords repeating repeatingWords fourTicks requested
+unfolding text-computing badges tiesWords BH CT ED RH GR PH PT Holds sevens d1Log d1Words d1Variant d1Report changingLog changingWords emptyLog emptyWords equalBadges starred nestedLog nestedWords further exampleLog exampleWords exampleTidy eastLog westLog bothWords example triple couple nobody without2 without3 missing missingWords repeating repeatingWords fourTicks requested
 computing = 0

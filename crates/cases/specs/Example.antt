@@ -2,6 +2,7 @@
 use mathlib.Core.List.{List, [], _∷_, _++_}
 use Prim.Native.Nat.{ℕ}
 use lib.ListN.{replicate}
+use Rattle.sets.specs.Sets.{full}
 use Rattle.records.specs.Outcomes.{success}
 use Rattle.thresholds.specs.Ranges.{leastOf, plain}
 use Rattle.promises.specs.D1.{badges}
@@ -46,23 +47,25 @@ example =
     length-of exampleLog 40
     ∷ read exampleLog (sevens 20) (accepted 5 4 5) exampleWords
     ∷ tidy exampleLog (sevens 20) (sevens 34) (success 34) exampleWords exampleTidy
-    ∷ core-numbers 5 4 exampleWords 0 1 (sevens 5) (success 5) (2 ∷ 2 ∷ 2 ∷ 0 ∷ 0 ∷ [])
-    ∷ report 5 4 exampleWords plain (sevens 49) (success 49) (RH 5 4 ++ GR 2 0 1 (badges (0 ∷ 1 ∷ 2 ∷ [])) ++ GR 1 0 2 (badges (0 ∷ 1 ∷ 2 ∷ [])) ++ GR 1 1 3 (badges (3 ∷ 4 ∷ [])) ++ ED 3)
+    ∷ core-numbers 5 4 exampleWords (full 5) 0 1 (sevens 5) (success 5) (2 ∷ 2 ∷ 2 ∷ 0 ∷ 0 ∷ [])
+    ∷ report 5 4 exampleWords (full 5) plain (sevens 49) (success 49) (RH 5 4 ++ GR 2 0 1 (badges (0 ∷ 1 ∷ 2 ∷ [])) ++ GR 1 0 2 (badges (0 ∷ 1 ∷ 2 ∷ [])) ++ GR 1 1 3 (badges (3 ∷ 4 ∷ [])) ++ ED 3)
     -- with a least length of three ticks, and with a least order of 2
-    ∷ report 5 4 exampleWords (leastOf 3 1 2) (sevens 36) (success 36) (RH 5 4 ++ GR 1 0 2 (badges (0 ∷ 1 ∷ 2 ∷ [])) ++ GR 1 1 3 (badges (3 ∷ 4 ∷ [])) ++ ED 2)
-    ∷ report 5 4 exampleWords (leastOf 1 2 2) (sevens 23) (success 23) (RH 5 4 ++ GR 2 0 1 (badges (0 ∷ 1 ∷ 2 ∷ [])) ++ ED 1)
+    ∷ report 5 4 exampleWords (full 5) (leastOf 3 1 2) (sevens 36) (success 36) (RH 5 4 ++ GR 1 0 2 (badges (0 ∷ 1 ∷ 2 ∷ [])) ++ GR 1 1 3 (badges (3 ∷ 4 ∷ [])) ++ ED 2)
+    ∷ report 5 4 exampleWords (full 5) (leastOf 1 2 2) (sevens 23) (success 23) (RH 5 4 ++ GR 2 0 1 (badges (0 ∷ 1 ∷ 2 ∷ [])) ++ ED 1)
+    -- without badges 1 and 3: a group that was dominated before
+    ∷ report 5 4 exampleWords (badges (0 ∷ 2 ∷ 4 ∷ [])) plain (sevens 23) (success 23) (RH 5 4 ++ GR 1 0 1 (badges (0 ∷ 2 ∷ [])) ++ ED 1)
     ∷ listing exampleLog "badges 5 ticks 4 groups 3\norder 2 ticks 0 to 1 badges 0 1 2\norder 1 ticks 0 to 2 badges 0 1 2\norder 1 ticks 1 to 3 badges 3 4\n"
     -- badge 1 in three parts
-    ∷ plan-sum 5 4 exampleWords (badges (1 ∷ [])) 3 4
-    ∷ plan 5 4 exampleWords (badges (1 ∷ [])) 3 (sevens 58) (success 58) (PH 5 4 3 (badges (1 ∷ [])) ++ PT 2 0 0 (badges (0 ∷ 1 ∷ 2 ∷ [])) ++ PT 2 1 1 (badges (0 ∷ 1 ∷ 2 ∷ [])) ++ PT 0 2 3 (badges (0 ∷ 1 ∷ 2 ∷ 3 ∷ 4 ∷ [])) ++ ED 3)
+    ∷ plan-sum 5 4 exampleWords (full 5) (badges (1 ∷ [])) 3 4
+    ∷ plan 5 4 exampleWords (full 5) (badges (1 ∷ [])) 3 (sevens 58) (success 58) (PH 5 4 3 (badges (1 ∷ [])) ++ PT 2 0 0 (badges (0 ∷ 1 ∷ 2 ∷ [])) ++ PT 2 1 1 (badges (0 ∷ 1 ∷ 2 ∷ [])) ++ PT 0 2 3 (badges (0 ∷ 1 ∷ 2 ∷ 3 ∷ 4 ∷ [])) ++ ED 3)
     -- and in two: a cut after tick 0 and one after tick 1 have the same sum
-    ∷ plan-ends 5 4 exampleWords (badges (1 ∷ [])) 2 (0 ∷ 3 ∷ [])
-    ∷ cut-sum 5 exampleWords (badges (1 ∷ [])) (0 ∷ 3 ∷ []) 2
-    ∷ cut-sum 5 exampleWords (badges (1 ∷ [])) (1 ∷ 3 ∷ []) 2
+    ∷ plan-ends 5 4 exampleWords (full 5) (badges (1 ∷ [])) 2 (0 ∷ 3 ∷ [])
+    ∷ cut-sum 5 exampleWords (full 5) (badges (1 ∷ [])) (0 ∷ 3 ∷ []) 2
+    ∷ cut-sum 5 exampleWords (full 5) (badges (1 ∷ [])) (1 ∷ 3 ∷ []) 2
     -- two receivers: what one of them heard is the day above; what both heard, and its groups
     ∷ length-of eastLog 40
     ∷ length-of westLog 34
     ∷ join (eastLog ++ westLog) (40 ∷ 34 ∷ []) 1 (sevens 20) (sevens 40) (sized 5 4) exampleWords (replicate 40 0)
     ∷ join (eastLog ++ westLog) (40 ∷ 34 ∷ []) 2 (sevens 20) (sevens 40) (sized 5 4) bothWords (replicate 40 0)
-    ∷ report 5 4 bothWords plain (sevens 49) (success 49) (RH 5 4 ++ GR 2 1 1 (badges (0 ∷ 1 ∷ 2 ∷ [])) ++ GR 1 1 2 (badges (0 ∷ 1 ∷ 2 ∷ [])) ++ GR 1 2 3 (badges (3 ∷ 4 ∷ [])) ++ ED 3)
+    ∷ report 5 4 bothWords (full 5) plain (sevens 49) (success 49) (RH 5 4 ++ GR 2 1 1 (badges (0 ∷ 1 ∷ 2 ∷ [])) ++ GR 1 1 2 (badges (0 ∷ 1 ∷ 2 ∷ [])) ++ GR 1 2 3 (badges (3 ∷ 4 ∷ [])) ++ ED 3)
     ∷ []

@@ -1,6 +1,7 @@
 -- Further cases, most of them about buffers of other sizes and the order of judging: they have no * in document 01. What a row says is in Rows.
 use mathlib.Core.List.{List, [], _∷_, _++_}
 use Prim.Native.Nat.{ℕ}
+use Rattle.sets.specs.Sets.{full}
 use Rattle.records.specs.Outcomes.{refused, success}
 use Rattle.sets.specs.Ascii.{ascii}
 use Rattle.thresholds.specs.Ranges.{plain}
@@ -51,26 +52,26 @@ further =
     ∷ write 4 3 d1Words (sevens 35) (success 34) (d1Log ++ 7 ∷ [])
     ∷ write 4 3 d1Words (sevens 33) (refused 9 0) (sevens 33)
     -- core numbers: a byte after the answer stays, and 3 bytes are too few
-    ∷ core-numbers 4 3 d1Words 0 1 (sevens 5) (success 4) (2 ∷ 2 ∷ 2 ∷ 1 ∷ 7 ∷ [])
-    ∷ core-numbers 4 3 d1Words 0 1 (sevens 3) (refused 9 0) (sevens 3)
+    ∷ core-numbers 4 3 d1Words (full 4) 0 1 (sevens 5) (success 4) (2 ∷ 2 ∷ 2 ∷ 1 ∷ 7 ∷ [])
+    ∷ core-numbers 4 3 d1Words (full 4) 0 1 (sevens 3) (refused 9 0) (sevens 3)
     -- no spans: the first tick after the last, and a last tick of T; both come before 9
-    ∷ core-numbers 4 3 d1Words 2 1 (sevens 3) (refused 12 0) (sevens 3)
-    ∷ core-numbers 4 3 d1Words 0 3 (sevens 3) (refused 12 0) (sevens 3)
+    ∷ core-numbers 4 3 d1Words (full 4) 2 1 (sevens 3) (refused 12 0) (sevens 3)
+    ∷ core-numbers 4 3 d1Words (full 4) 0 3 (sevens 3) (refused 12 0) (sevens 3)
     -- words that are no day, too few words and no ticks come before that
-    ∷ core-numbers 4 3 (sevens 12) 2 1 (sevens 3) (refused 11 0) (sevens 3)
-    ∷ core-numbers 4 3 (sevens 11) 2 1 (sevens 3) (refused 8 0) (sevens 3)
-    ∷ core-numbers 4 0 [] 2 1 [] (refused 10 0) []
+    ∷ core-numbers 4 3 (sevens 12) (full 4) 2 1 (sevens 3) (refused 11 0) (sevens 3)
+    ∷ core-numbers 4 3 (sevens 11) (full 4) 2 1 (sevens 3) (refused 8 0) (sevens 3)
+    ∷ core-numbers 4 0 [] (full 4) 2 1 [] (refused 10 0) []
     -- partners that change tick by tick: in one tick, and throughout both
-    ∷ core-numbers 3 2 changingWords 0 0 (sevens 3) (success 3) (1 ∷ 1 ∷ 0 ∷ [])
-    ∷ core-numbers 3 2 changingWords 0 1 (sevens 3) (success 3) (0 ∷ 0 ∷ 0 ∷ [])
+    ∷ core-numbers 3 2 changingWords (full 3) 0 0 (sevens 3) (success 3) (1 ∷ 1 ∷ 0 ∷ [])
+    ∷ core-numbers 3 2 changingWords (full 3) 0 1 (sevens 3) (success 3) (0 ∷ 0 ∷ 0 ∷ [])
     -- groups come by first tick and then last tick, though this day's group of order 2 lies inside the span of the other
     ∷ read nestedLog (sevens 12) (accepted 4 3 4) nestedWords
-    ∷ report 4 3 nestedWords plain (sevens 36) (success 36) (RH 4 3 ++ GR 1 0 2 (badges (2 ∷ 3 ∷ [])) ++ GR 2 1 1 (badges (0 ∷ 1 ∷ 2 ∷ [])) ++ ED 2)
+    ∷ report 4 3 nestedWords (full 4) plain (sevens 36) (success 36) (RH 4 3 ++ GR 1 0 2 (badges (2 ∷ 3 ∷ [])) ++ GR 2 1 1 (badges (0 ∷ 1 ∷ 2 ∷ [])) ++ ED 2)
     -- plan: 31 bytes are too few; no parts; a badge of n or more comes before too many parts, and both before 9
-    ∷ plan 4 3 d1Words (badges (0 ∷ [])) 1 (sevens 31) (refused 9 0) (sevens 31)
-    ∷ plan 4 3 d1Words (badges (2 ∷ [])) 0 (sevens 3) (refused 14 0) (sevens 3)
-    ∷ plan 4 3 d1Words (badges (2 ∷ [])) 4 (sevens 3) (refused 14 0) (sevens 3)
-    ∷ plan 4 3 d1Words (badges (4 ∷ [])) 4 (sevens 3) (refused 13 0) (sevens 3)
+    ∷ plan 4 3 d1Words (full 4) (badges (0 ∷ [])) 1 (sevens 31) (refused 9 0) (sevens 31)
+    ∷ plan 4 3 d1Words (full 4) (badges (2 ∷ [])) 0 (sevens 3) (refused 14 0) (sevens 3)
+    ∷ plan 4 3 d1Words (full 4) (badges (2 ∷ [])) 4 (sevens 3) (refused 14 0) (sevens 3)
+    ∷ plan 4 3 d1Words (full 4) (badges (4 ∷ [])) 4 (sevens 3) (refused 13 0) (sevens 3)
     -- the listing: "For D1 it writes exactly"; a day without groups; "A refusal prints `refused N at OFFSET`."
     ∷ listing d1Log "badges 4 ticks 3 groups 2\norder 2 ticks 0 to 1 badges 0 1 2\norder 1 ticks 0 to 2 badges 2 3\n"
     ∷ listing emptyLog "badges 4 ticks 3 groups 0\n"

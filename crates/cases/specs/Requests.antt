@@ -2,12 +2,13 @@
 use mathlib.Core.List.{List, [], _∷_, _++_}
 use Prim.Native.Nat.{ℕ}
 use lib.ListN.{replicate}
+use Rattle.sets.specs.Sets.{full}
 use Rattle.records.specs.Outcomes.{refused, success}
-use Rattle.thresholds.specs.Ranges.{leastOf}
+use Rattle.thresholds.specs.Ranges.{plain, leastOf}
 use Rattle.promises.specs.D1.{badges, d1Words}
 use Rattle.promises.specs.Ties.{tiesWords}
 use Rattle.cases.specs.RecordBytes.{BH, CT, ED, RH, GR, PH, PT}
-use Rattle.cases.specs.Rows.{Row, join, tidy, report, plan, plan-ends, cut-sum, length-of}
+use Rattle.cases.specs.Rows.{Row, join, tidy, core-numbers, report, plan, plan-ends, cut-sum, length-of}
 use Rattle.cases.specs.Table.{sevens, sized, d1Log, emptyLog, emptyWords, equalBadges}
 
 -- reports of D1 that keep one of its two groups, "order 2, 0 to 1, {0,1,2}" and "order 1, 0 to 2, {2,3}", and none
@@ -19,6 +20,13 @@ couple = RH 4 3 ++ GR 1 0 2 (badges (2 ∷ 3 ∷ [])) ++ ED 1
 
 unfoldable pub nobody : List ℕ
 nobody = RH 4 3 ++ ED 0
+
+-- D1's badges without 2, and without 3
+unfoldable pub without2 : ℕ
+without2 = badges (0 ∷ 1 ∷ 3 ∷ [])
+
+unfoldable pub without3 : ℕ
+without3 = badges (0 ∷ 1 ∷ 2 ∷ [])
 
 -- "D1 .. contacts 0–1, 0–2 and 1–2 in ticks 0 to 1, and 2–3 in ticks 0 to 2", heard by a receiver that misses 0–1 and names the others from the other side;
 -- by one that hears 2–3 alone, and says it twice; and D1's contacts in a day of 4 ticks
@@ -46,30 +54,30 @@ fourTicks = BH 4 4 ++ CT 0 1 0 1 ++ CT 0 2 0 1 ++ CT 1 2 0 1 ++ CT 2 3 0 2 ++ ED
 unfoldable pub requested : List Row
 requested =
     -- "One. Thresholds. .. It keeps the records of the full report that meet all three, in their order"
-    report 4 3 d1Words (leastOf 3 1 2) (sevens 23) (success 23) couple
-    ∷ report 4 3 d1Words (leastOf 1 2 2) (sevens 23) (success 23) triple
-    ∷ report 4 3 d1Words (leastOf 1 1 3) (sevens 23) (success 23) triple
+    report 4 3 d1Words (full 4) (leastOf 3 1 2) (sevens 23) (success 23) couple
+    ∷ report 4 3 d1Words (full 4) (leastOf 1 2 2) (sevens 23) (success 23) triple
+    ∷ report 4 3 d1Words (full 4) (leastOf 1 1 3) (sevens 23) (success 23) triple
     -- "domination is judged before the filter": order 1 on 0 to 1 has a core of four, but order 1 on 0 to 2 has one, too
-    ∷ report 4 3 d1Words (leastOf 1 1 4) (sevens 10) (success 10) nobody
+    ∷ report 4 3 d1Words (full 4) (leastOf 1 1 4) (sevens 10) (success 10) nobody
     ∷ length-of nobody 10
     -- the ranges do not depend on the day
-    ∷ report 4 3 d1Words (leastOf 96 63 64) (sevens 10) (success 10) nobody
+    ∷ report 4 3 d1Words (full 4) (leastOf 96 63 64) (sevens 10) (success 10) nobody
     -- the buffer is measured against what is kept: a byte less than the plain report, and a byte less than this one
-    ∷ report 4 3 d1Words (leastOf 3 1 2) (sevens 35) (success 23) (couple ++ sevens 12)
-    ∷ report 4 3 d1Words (leastOf 3 1 2) (sevens 22) (refused 9 0) (sevens 22)
+    ∷ report 4 3 d1Words (full 4) (leastOf 3 1 2) (sevens 35) (success 23) (couple ++ sevens 12)
+    ∷ report 4 3 d1Words (full 4) (leastOf 3 1 2) (sevens 22) (refused 9 0) (sevens 22)
     -- "17, a threshold outside its range": too small, and one above each limit
-    ∷ report 4 3 d1Words (leastOf 0 1 2) (sevens 36) (refused 17 0) (sevens 36)
-    ∷ report 4 3 d1Words (leastOf 97 1 2) (sevens 36) (refused 17 0) (sevens 36)
-    ∷ report 4 3 d1Words (leastOf 1 0 2) (sevens 36) (refused 17 0) (sevens 36)
-    ∷ report 4 3 d1Words (leastOf 1 64 2) (sevens 36) (refused 17 0) (sevens 36)
-    ∷ report 4 3 d1Words (leastOf 1 1 0) (sevens 36) (refused 17 0) (sevens 36)
-    ∷ report 4 3 d1Words (leastOf 1 1 1) (sevens 36) (refused 17 0) (sevens 36)
-    ∷ report 4 3 d1Words (leastOf 1 1 65) (sevens 36) (refused 17 0) (sevens 36)
+    ∷ report 4 3 d1Words (full 4) (leastOf 0 1 2) (sevens 36) (refused 17 0) (sevens 36)
+    ∷ report 4 3 d1Words (full 4) (leastOf 97 1 2) (sevens 36) (refused 17 0) (sevens 36)
+    ∷ report 4 3 d1Words (full 4) (leastOf 1 0 2) (sevens 36) (refused 17 0) (sevens 36)
+    ∷ report 4 3 d1Words (full 4) (leastOf 1 64 2) (sevens 36) (refused 17 0) (sevens 36)
+    ∷ report 4 3 d1Words (full 4) (leastOf 1 1 0) (sevens 36) (refused 17 0) (sevens 36)
+    ∷ report 4 3 d1Words (full 4) (leastOf 1 1 1) (sevens 36) (refused 17 0) (sevens 36)
+    ∷ report 4 3 d1Words (full 4) (leastOf 1 1 65) (sevens 36) (refused 17 0) (sevens 36)
     -- "after 11 and before 9"
-    ∷ report 4 3 d1Words (leastOf 0 1 2) (sevens 3) (refused 17 0) (sevens 3)
-    ∷ report 4 3 (sevens 12) (leastOf 0 1 2) (sevens 36) (refused 11 0) (sevens 36)
-    ∷ report 4 3 (sevens 11) (leastOf 0 1 2) (sevens 36) (refused 8 0) (sevens 36)
-    ∷ report 4 0 [] (leastOf 0 1 2) (sevens 36) (refused 10 0) (sevens 36)
+    ∷ report 4 3 d1Words (full 4) (leastOf 0 1 2) (sevens 3) (refused 17 0) (sevens 3)
+    ∷ report 4 3 (sevens 12) (full 4) (leastOf 0 1 2) (sevens 36) (refused 11 0) (sevens 36)
+    ∷ report 4 3 (sevens 11) (full 4) (leastOf 0 1 2) (sevens 36) (refused 8 0) (sevens 36)
+    ∷ report 4 0 [] (full 4) (leastOf 0 1 2) (sevens 36) (refused 10 0) (sevens 36)
     -- "Two. .. Joining runs can't produce more records than came in": as many where no two touch, and one where all do
     ∷ tidy (BH 2 5 ++ CT 0 1 4 4 ++ CT 1 0 0 0 ++ CT 0 1 2 2 ++ ED 3) (sevens 10) (sevens 28) (success 28) (2 ∷ 1 ∷ 0 ∷ 0 ∷ 2 ∷ 1 ∷ 0 ∷ 0 ∷ 2 ∷ 1 ∷ []) (BH 2 5 ++ CT 0 1 0 0 ++ CT 0 1 2 2 ++ CT 0 1 4 4 ++ ED 3)
     ∷ tidy (BH 2 3 ++ CT 0 1 2 2 ++ CT 1 0 0 0 ++ CT 0 1 1 1 ++ ED 3) (sevens 6) (sevens 16) (success 16) (2 ∷ 1 ∷ 2 ∷ 1 ∷ 2 ∷ 1 ∷ []) (BH 2 3 ++ CT 0 1 0 2 ++ ED 1)
@@ -78,15 +86,15 @@ requested =
     ∷ tidy (BH 2 3 ++ CT 0 1 0 2 ++ ED 1) (sevens 5) (sevens 15) (refused 8 0) (sevens 5) (sevens 15)
     ∷ tidy (BH 2 3 ++ CT 0 1 0 2 ++ ED 1) (sevens 6) (sevens 15) (refused 9 0) (2 ∷ 1 ∷ 2 ∷ 1 ∷ 2 ∷ 1 ∷ []) (sevens 15)
     -- "Three. .. For D1, query {2} and h 2 the ends are 0 and 2."
-    ∷ plan-ends 4 3 d1Words (badges (2 ∷ [])) 2 (0 ∷ 2 ∷ [])
-    ∷ plan 4 3 d1Words (badges (2 ∷ [])) 2 (sevens 45) (success 45) (PH 4 3 2 (badges (2 ∷ [])) ++ PT 2 0 0 (badges (0 ∷ 1 ∷ 2 ∷ [])) ++ PT 1 1 2 (badges (2 ∷ 3 ∷ [])) ++ ED 2)
+    ∷ plan-ends 4 3 d1Words (full 4) (badges (2 ∷ [])) 2 (0 ∷ 2 ∷ [])
+    ∷ plan 4 3 d1Words (full 4) (badges (2 ∷ [])) 2 (sevens 45) (success 45) (PH 4 3 2 (badges (2 ∷ [])) ++ PT 2 0 0 (badges (0 ∷ 1 ∷ 2 ∷ [])) ++ PT 1 1 2 (badges (2 ∷ 3 ∷ [])) ++ ED 2)
     -- where no badge met another, every cutting has the sum 0, and the first has all parts but the last of one tick
-    ∷ plan-ends 3 5 (replicate 15 0) (badges (0 ∷ [])) 3 (0 ∷ 1 ∷ 4 ∷ [])
+    ∷ plan-ends 3 5 (replicate 15 0) (full 3) (badges (0 ∷ [])) 3 (0 ∷ 1 ∷ 4 ∷ [])
     -- "compared number by number", from the first on: 0, 3, 4 and 1, 2, 4 have the same sum, and so have 2, 3, 4
-    ∷ plan-ends 3 5 tiesWords (badges (0 ∷ [])) 3 (0 ∷ 3 ∷ 4 ∷ [])
-    ∷ cut-sum 3 tiesWords (badges (0 ∷ [])) (0 ∷ 3 ∷ 4 ∷ []) 3
-    ∷ cut-sum 3 tiesWords (badges (0 ∷ [])) (1 ∷ 2 ∷ 4 ∷ []) 3
-    ∷ cut-sum 3 tiesWords (badges (0 ∷ [])) (2 ∷ 3 ∷ 4 ∷ []) 3
+    ∷ plan-ends 3 5 tiesWords (full 3) (badges (0 ∷ [])) 3 (0 ∷ 3 ∷ 4 ∷ [])
+    ∷ cut-sum 3 tiesWords (full 3) (badges (0 ∷ [])) (0 ∷ 3 ∷ 4 ∷ []) 3
+    ∷ cut-sum 3 tiesWords (full 3) (badges (0 ∷ [])) (1 ∷ 2 ∷ 4 ∷ []) 3
+    ∷ cut-sum 3 tiesWords (full 3) (badges (0 ∷ [])) (2 ∷ 3 ∷ 4 ∷ []) 3
     -- "Four. .. A contact counts if at least q receivers heard it": one of two misses 0–1; words after the day and work words after those of each log stay
     ∷ length-of missing 28
     ∷ join (d1Log ++ missing) (34 ∷ 28 ∷ []) 1 (sevens 12) (sevens 24) (sized 4 3) d1Words (replicate 24 0)
@@ -118,4 +126,36 @@ requested =
     -- 8: "the first n×T work words for each log, counted by 8 too"
     ∷ join (d1Log ++ missing) (34 ∷ 28 ∷ []) 1 (sevens 11) (sevens 24) (refused 8 0) (sevens 11) (sevens 24)
     ∷ join (d1Log ++ missing) (34 ∷ 28 ∷ []) 1 (sevens 12) (sevens 23) (refused 8 0) (sevens 12) (sevens 23)
+    -- "Six. .. all cores are cores among those badges, others have core number 0": D1 without badge 2, and without badge 3
+    ∷ core-numbers 4 3 d1Words without2 0 1 (sevens 4) (success 4) (1 ∷ 1 ∷ 0 ∷ 0 ∷ [])
+    ∷ core-numbers 4 3 d1Words without2 0 2 (sevens 4) (success 4) (0 ∷ 0 ∷ 0 ∷ 0 ∷ [])
+    ∷ core-numbers 4 3 d1Words without3 0 1 (sevens 4) (success 4) (2 ∷ 2 ∷ 2 ∷ 0 ∷ [])
+    ∷ core-numbers 4 3 d1Words without3 0 2 (sevens 4) (success 4) (0 ∷ 0 ∷ 0 ∷ 0 ∷ [])
+    -- domination is judged among them alone: the first of these records is none of the full report's
+    ∷ report 4 3 d1Words without2 plain (sevens 23) (success 23) (RH 4 3 ++ GR 1 0 1 (badges (0 ∷ 1 ∷ [])) ++ ED 1)
+    ∷ report 4 3 d1Words without3 plain (sevens 23) (success 23) triple
+    -- "a plan part of score 0 shows the reviewed set", and an empty query names no badge that is not reviewed
+    ∷ plan 4 3 d1Words without2 (badges (0 ∷ [])) 2 (sevens 45) (success 45) (PH 4 3 2 (badges (0 ∷ [])) ++ PT 1 0 0 (badges (0 ∷ 1 ∷ [])) ++ PT 0 1 2 without2 ++ ED 2)
+    ∷ plan 4 3 d1Words without3 (badges (2 ∷ [])) 1 (sevens 32) (success 32) (PH 4 3 1 (badges (2 ∷ [])) ++ PT 0 0 2 without3 ++ ED 1)
+    ∷ plan 4 3 d1Words (badges (3 ∷ [])) (badges []) 1 (sevens 32) (success 32) (PH 4 3 1 (badges []) ++ PT 0 0 2 (badges (3 ∷ [])) ++ ED 1)
+    -- "20, the set is empty or has a badge of n or more", with good ones too
+    ∷ core-numbers 4 3 d1Words (badges []) 0 1 (sevens 4) (refused 20 0) (sevens 4)
+    ∷ core-numbers 4 3 d1Words (badges (4 ∷ [])) 0 1 (sevens 4) (refused 20 0) (sevens 4)
+    ∷ report 4 3 d1Words (badges []) plain (sevens 36) (refused 20 0) (sevens 36)
+    ∷ report 4 3 d1Words (badges (0 ∷ 1 ∷ 2 ∷ 3 ∷ 4 ∷ [])) plain (sevens 36) (refused 20 0) (sevens 36)
+    ∷ plan 4 3 d1Words (badges []) (badges []) 1 (sevens 32) (refused 20 0) (sevens 32)
+    ∷ plan 4 3 d1Words (badges (2 ∷ 4 ∷ [])) (badges (2 ∷ [])) 1 (sevens 32) (refused 20 0) (sevens 32)
+    -- "directly after 11 and so before 12, 13 and 17"
+    ∷ core-numbers 4 3 d1Words (badges []) 2 1 (sevens 3) (refused 20 0) (sevens 3)
+    ∷ report 4 3 d1Words (badges []) (leastOf 0 1 2) (sevens 3) (refused 20 0) (sevens 3)
+    ∷ plan 4 3 d1Words (badges []) (badges (4 ∷ [])) 4 (sevens 3) (refused 20 0) (sevens 3)
+    ∷ core-numbers 4 3 (sevens 12) (badges []) 2 1 (sevens 3) (refused 11 0) (sevens 3)
+    ∷ report 4 3 (sevens 11) (badges []) (leastOf 0 1 2) (sevens 3) (refused 8 0) (sevens 3)
+    ∷ plan 4 0 [] (badges []) (badges (4 ∷ [])) 4 (sevens 3) (refused 10 0) (sevens 3)
+    -- "21, the query has a badge outside it, between 13 and 14"
+    ∷ plan 4 3 d1Words without3 (badges (3 ∷ [])) 1 (sevens 32) (refused 21 0) (sevens 32)
+    ∷ plan 4 3 d1Words without3 (badges (4 ∷ [])) 1 (sevens 32) (refused 13 0) (sevens 32)
+    ∷ plan 4 3 d1Words without3 (badges (3 ∷ 4 ∷ [])) 4 (sevens 3) (refused 13 0) (sevens 3)
+    ∷ plan 4 3 d1Words without3 (badges (2 ∷ 3 ∷ [])) 4 (sevens 3) (refused 21 0) (sevens 3)
+    ∷ plan 4 3 d1Words without3 (badges (2 ∷ [])) 4 (sevens 3) (refused 14 0) (sevens 3)
     ∷ []

@@ -3,6 +3,7 @@
 use mathlib.Core.List.{List, [], _∷_, _++_}
 use Prim.Native.Nat.{ℕ}
 use lib.ListN.{replicate}
+use Rattle.sets.specs.Sets.{full}
 use Rattle.records.specs.Outcomes.{Outcome, refused, success}
 use Rattle.records.specs.Verdicts.{Values}
 use Rattle.series.specs.Series.{Size}
@@ -67,37 +68,37 @@ starred =
     ∷ length-of d1Variant 40
     ∷ tidy d1Variant (sevens 12) (sevens 34) (success 34) d1Words d1Log
     -- "* Core numbers, span 0 to 1: 2 2 2 1."
-    ∷ core-numbers 4 3 d1Words 0 1 (sevens 4) (success 4) (2 ∷ 2 ∷ 2 ∷ 1 ∷ [])
+    ∷ core-numbers 4 3 d1Words (full 4) 0 1 (sevens 4) (success 4) (2 ∷ 2 ∷ 2 ∷ 1 ∷ [])
     -- "* Span 0 to 2: 0 0 1 1."
-    ∷ core-numbers 4 3 d1Words 0 2 (sevens 4) (success 4) (0 ∷ 0 ∷ 1 ∷ 1 ∷ [])
+    ∷ core-numbers 4 3 d1Words (full 4) 0 2 (sevens 4) (success 4) (0 ∷ 0 ∷ 1 ∷ 1 ∷ [])
     -- "* Report: order 2, 0 to 1, {0,1,2}; order 1, 0 to 2, {2,3}. 36 bytes; a buffer of 35 gets 9."
-    ∷ report 4 3 d1Words plain (sevens 36) (success 36) d1Report
+    ∷ report 4 3 d1Words (full 4) plain (sevens 36) (success 36) d1Report
     ∷ length-of d1Report 36
-    ∷ report 4 3 d1Words plain (sevens 35) (refused 9 0) (sevens 35)
+    ∷ report 4 3 d1Words (full 4) plain (sevens 35) (refused 9 0) (sevens 35)
     -- "* Query {2}: sum 1 for h 1,"
-    ∷ plan-sum 4 3 d1Words (badges (2 ∷ [])) 1 1
-    ∷ plan 4 3 d1Words (badges (2 ∷ [])) 1 (sevens 32) (success 32) (PH 4 3 1 (badges (2 ∷ [])) ++ PT 1 0 2 (badges (2 ∷ 3 ∷ [])) ++ ED 1)
+    ∷ plan-sum 4 3 d1Words (full 4) (badges (2 ∷ [])) 1 1
+    ∷ plan 4 3 d1Words (full 4) (badges (2 ∷ [])) 1 (sevens 32) (success 32) (PH 4 3 1 (badges (2 ∷ [])) ++ PT 1 0 2 (badges (2 ∷ 3 ∷ [])) ++ ED 1)
     -- "3 for h 2 (cut after tick 0 or tick 1),"
-    ∷ plan-sum 4 3 d1Words (badges (2 ∷ [])) 2 3
-    ∷ cut-sum 4 d1Words (badges (2 ∷ [])) (0 ∷ 2 ∷ []) 3
-    ∷ cut-sum 4 d1Words (badges (2 ∷ [])) (1 ∷ 2 ∷ []) 3
+    ∷ plan-sum 4 3 d1Words (full 4) (badges (2 ∷ [])) 2 3
+    ∷ cut-sum 4 d1Words (full 4) (badges (2 ∷ [])) (0 ∷ 2 ∷ []) 3
+    ∷ cut-sum 4 d1Words (full 4) (badges (2 ∷ [])) (1 ∷ 2 ∷ []) 3
     -- "5 for h 3."
-    ∷ plan-sum 4 3 d1Words (badges (2 ∷ [])) 3 5
-    ∷ plan 4 3 d1Words (badges (2 ∷ [])) 3 (sevens 58) (success 58) (PH 4 3 3 (badges (2 ∷ [])) ++ PT 2 0 0 (badges (0 ∷ 1 ∷ 2 ∷ [])) ++ PT 2 1 1 (badges (0 ∷ 1 ∷ 2 ∷ [])) ++ PT 1 2 2 (badges (2 ∷ 3 ∷ [])) ++ ED 3)
+    ∷ plan-sum 4 3 d1Words (full 4) (badges (2 ∷ [])) 3 5
+    ∷ plan 4 3 d1Words (full 4) (badges (2 ∷ [])) 3 (sevens 58) (success 58) (PH 4 3 3 (badges (2 ∷ [])) ++ PT 2 0 0 (badges (0 ∷ 1 ∷ 2 ∷ [])) ++ PT 2 1 1 (badges (0 ∷ 1 ∷ 2 ∷ [])) ++ PT 1 2 2 (badges (2 ∷ 3 ∷ [])) ++ ED 3)
     -- "h 4 gets 14."
-    ∷ plan 4 3 d1Words (badges (2 ∷ [])) 4 (sevens 71) (refused 14 0) (sevens 71)
+    ∷ plan 4 3 d1Words (full 4) (badges (2 ∷ [])) 4 (sevens 71) (refused 14 0) (sevens 71)
     -- "* Query {0}, h 1: score 0, all four badges."
-    ∷ plan 4 3 d1Words (badges (0 ∷ [])) 1 (sevens 32) (success 32) (PH 4 3 1 (badges (0 ∷ [])) ++ PT 0 0 2 (badges (0 ∷ 1 ∷ 2 ∷ 3 ∷ [])) ++ ED 1)
+    ∷ plan 4 3 d1Words (full 4) (badges (0 ∷ [])) 1 (sevens 32) (success 32) (PH 4 3 1 (badges (0 ∷ [])) ++ PT 0 0 2 (badges (0 ∷ 1 ∷ 2 ∷ 3 ∷ [])) ++ ED 1)
     -- "* Query {0,3}, h 3: sum 2."
-    ∷ plan-sum 4 3 d1Words (badges (0 ∷ 3 ∷ [])) 3 2
-    ∷ plan 4 3 d1Words (badges (0 ∷ 3 ∷ [])) 3 (sevens 58) (success 58) (PH 4 3 3 (badges (0 ∷ 3 ∷ [])) ++ PT 1 0 0 (badges (0 ∷ 1 ∷ 2 ∷ 3 ∷ [])) ++ PT 1 1 1 (badges (0 ∷ 1 ∷ 2 ∷ 3 ∷ [])) ++ PT 0 2 2 (badges (0 ∷ 1 ∷ 2 ∷ 3 ∷ [])) ++ ED 3)
+    ∷ plan-sum 4 3 d1Words (full 4) (badges (0 ∷ 3 ∷ [])) 3 2
+    ∷ plan 4 3 d1Words (full 4) (badges (0 ∷ 3 ∷ [])) 3 (sevens 58) (success 58) (PH 4 3 3 (badges (0 ∷ 3 ∷ [])) ++ PT 1 0 0 (badges (0 ∷ 1 ∷ 2 ∷ 3 ∷ [])) ++ PT 1 1 1 (badges (0 ∷ 1 ∷ 2 ∷ 3 ∷ [])) ++ PT 0 2 2 (badges (0 ∷ 1 ∷ 2 ∷ 3 ∷ [])) ++ ED 3)
     -- "* n 3, T 2, 0–1 in tick 0, 0–2 in tick 1: groups of order 1 at 0 to 0 {0,1} and 1 to 1 {0,2}, none at 0 to 1."
     ∷ read changingLog (sevens 6) (accepted 3 2 2) changingWords
-    ∷ report 3 2 changingWords plain (sevens 36) (success 36) (RH 3 2 ++ GR 1 0 0 (badges (0 ∷ 1 ∷ [])) ++ GR 1 1 1 (badges (0 ∷ 2 ∷ [])) ++ ED 2)
+    ∷ report 3 2 changingWords (full 3) plain (sevens 36) (success 36) (RH 3 2 ++ GR 1 0 0 (badges (0 ∷ 1 ∷ [])) ++ GR 1 1 1 (badges (0 ∷ 2 ∷ [])) ++ ED 2)
     -- "* A log without CT: 10 bytes, a report of 10 bytes."
     ∷ length-of emptyLog 10
     ∷ read emptyLog (sevens 12) (accepted 4 3 0) emptyWords
-    ∷ report 4 3 emptyWords plain (sevens 10) (success 10) (RH 4 3 ++ ED 0)
+    ∷ report 4 3 emptyWords (full 4) plain (sevens 10) (success 10) (RH 4 3 ++ ED 0)
     ∷ length-of (RH 4 3 ++ ED 0) 10
     -- "* Empty file: 1 at offset 0."
     ∷ read [] (sevens 12) (refused 1 0) (sevens 12)

@@ -1,12 +1,13 @@
--- Laws of the definitions in specs/, from the bottom up. Other crates cite NumbersCall, ReportTheorems and PlanCall.
+-- Laws of the definitions in specs/, from the bottom up. Other crates cite ReviewCall, NumbersCall, ReportTheorems and PlanCall.
 
 -- the rows of spans, and the loop that narrows them
 pub mod TickRows
 pub mod Narrowing
--- core numbers
-pub mod NumbersCall
--- what is found from rows, and the loop over the spans with one first tick
+-- what the calls judge first
+pub mod ReviewCall
+-- what is found from rows: core numbers, and the loop over the spans with one first tick
 pub mod RowCores
+pub mod NumbersCall
 pub mod LineLoops
 -- records in bytes
 pub mod Appended

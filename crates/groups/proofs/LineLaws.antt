@@ -22,40 +22,40 @@ use Rattle.groups.specs.Lines.{ScoresBefore, LineFound}
 use Rattle.groups.specs.Appending.{lineList}
 
 -- scores before the first tick, and before the next
-pub scores-none : (n T : ℕ) (ws : List ℕ) (query : ℕ) → T ≤ maxTicks → ScoresBefore n T ws query 0 (replicate (suc maxTicks) 0)
-scores-none n T ws query s = record {
+pub scores-none : (n T : ℕ) (ws : List ℕ) (base query : ℕ) → T ≤ maxTicks → ScoresBefore n T ws base query 0 (replicate (suc maxTicks) 0)
+scores-none n T ws base query s = record {
   size = refl;
-  score = λ last l m. getD-replicate (suc maxTicks) last 0 0 (omega arith) ∙ sym (score-before-none n ws query last);
+  score = λ last l m. getD-replicate (suc maxTicks) last 0 0 (omega arith) ∙ sym (score-before-none n ws base query last);
   end = getD-replicate (suc maxTicks) T 0 0 (omega arith);
 }
 
-pub scores-more : {n T : ℕ} {ws : List ℕ} {query first : ℕ} {orders orders′ members′ : List ℕ} → ScoresBefore n T ws query first orders
-    → LineFound n T ws query first orders orders′ members′ → ScoresBefore n T ws query (suc first) orders′
-scores-more {n} {T} {ws} {query} {first} b f = record {
+pub scores-more : {n T : ℕ} {ws : List ℕ} {base query first : ℕ} {orders orders′ members′ : List ℕ} → ScoresBefore n T ws base query first orders
+    → LineFound n T ws base query first orders orders′ members′ → ScoresBefore n T ws base query (suc first) orders′
+scores-more {n} {T} {ws} {base} {query} {first} b f = record {
   size = f .orders-size ∙ b .size;
-  score = λ last l m. f .score last (omega arith) m ∙ sym (score-before-more n ws query first last);
+  score = λ last l m. f .score last (omega arith) m ∙ sym (score-before-more n ws base query first last);
   end = f .after T (le-refl T) ∙ b .end;
 }
 
 -- the records made of a line's orders and members are its groups
-pub line-list : {n T : ℕ} {ws : List ℕ} {first : ℕ} {orders orders′ members′ : List ℕ} → ScoresBefore n T ws 0 first orders → LineFound n T ws 0 first orders orders′ members′
-    → lineList orders′ members′ first T ≡ groupsFrom n T ws first
+pub line-list : {n T : ℕ} {ws : List ℕ} {base first : ℕ} {orders orders′ members′ : List ℕ} → ScoresBefore n T ws base 0 first orders → LineFound n T ws base 0 first orders orders′ members′
+    → lineList orders′ members′ first T ≡ groupsFrom n T ws base first
 unfolding lineList groupsFrom
-line-list {n} {T} {ws} {first} {orders} {orders′} {members′} b f = concat-same T _ _ (λ last m. cell last m (leb first last) refl)
+line-list {n} {T} {ws} {base} {first} {orders} {orders′} {members′} b f = concat-same T _ _ (λ last m. cell last m (leb first last) refl)
   where
-    next : (last : ℕ) → first ≤ last → last < T → getD orders′ (suc last) 0 ≡ scoreAfter n T ws 0 first last
+    next : (last : ℕ) → first ≤ last → last < T → getD orders′ (suc last) 0 ≡ scoreAfter n T ws base 0 first last
     next last l m = by-cases (decLt (suc last) T)
-        (λ h. f .score (suc last) (omega arith) h ∙ sym (after-yes n T ws 0 first last h))
+        (λ h. f .score (suc last) (omega arith) h ∙ sym (after-yes n T ws base 0 first last h))
         (λ h.
         let e : suc last ≡ T = omega arith in
-        ap (λ (x : ℕ). getD orders′ x 0) e ∙ f .after T (le-refl T) ∙ b .end ∙ sym (after-no n T ws 0 first last (omega arith)))
+        ap (λ (x : ℕ). getD orders′ x 0) e ∙ f .after T (le-refl T) ∙ b .end ∙ sym (after-no n T ws base 0 first last (omega arith)))
 
     made : ℕ → List SpanCore
     made last =
         keepIf (ltb 0 (getD members′ last 0) and ltb (getD orders′ (suc last) 0) (getD orders′ last 0)) (record { order = getD orders′ last 0; first = first; last = last; members = getD members′ last 0 } ∷ [])
 
-    cell : (last : ℕ) → last < T → (b : Bool) → leb first last ≡ b → keepIf (leb first last) (made last) ≡ keepIf (leb first last) (groupsOn n T ws first last)
+    cell : (last : ℕ) → last < T → (b : Bool) → leb first last ≡ b → keepIf (leb first last) (made last) ≡ keepIf (leb first last) (groupsOn n T ws base first last)
     cell last m false e = keep-nil _ _ (λ f. clash f e) ∙ sym (keep-nil _ _ (λ f. clash f e))
     cell last m true e =
         let l = leb-true _ _ e in
-        ap (keepIf (leb first last)) (rw (f .score last l m, next last l m, f .new last l m) (sym (groups-on n T ws first last l m)))
+        ap (keepIf (leb first last)) (rw (f .score last l m, next last l m, f .new last l m) (sym (groups-on n T ws base first last l m)))

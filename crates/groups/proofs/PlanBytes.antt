@@ -32,10 +32,10 @@ nextFirst t [] = t
 nextFirst t (e ∷ es) = nextFirst (suc e) es
 
 -- one end more is one part more
-parts-more : (n : ℕ) (ws : List ℕ) (query t : ℕ) (es : List ℕ) (e : ℕ) → partsFrom n ws query t (es ++ (e ∷ [])) ≡ partsFrom n ws query t es ++ (partOn n ws query (nextFirst t es) e ∷ [])
+parts-more : (n : ℕ) (ws : List ℕ) (base query t : ℕ) (es : List ℕ) (e : ℕ) → partsFrom n ws base query t (es ++ (e ∷ [])) ≡ partsFrom n ws base query t es ++ (partOn n ws base query (nextFirst t es) e ∷ [])
 unfolding partsFrom nextFirst
-parts-more n ws query t [] e = refl
-parts-more n ws query t (x ∷ es) e = ap {B = List SpanCore} (λ ps. partOn n ws query t x ∷ ps) (parts-more n ws query (suc x) es e)
+parts-more n ws base query t [] e = refl
+parts-more n ws base query t (x ∷ es) e = ap {B = List SpanCore} (λ ps. partOn n ws base query t x ∷ ps) (parts-more n ws base query (suc x) es e)
 
 next-more : (t : ℕ) (es : List ℕ) (e : ℕ) → nextFirst t (es ++ (e ∷ [])) ≡ suc e
 unfolding nextFirst
@@ -55,27 +55,27 @@ module _ (T h : ℕ) (ends : List ℕ) (c : Cutting T h (take h ends)) where
   end-inside (suc d) i e = omega (arith, end-rises i (omega arith), end-inside d (suc i) (omega arith))
 
 -- Before the turn of part i: the parts before it are appended, and it starts after the end of the last.
-pub record PlanSoFar (n T : ℕ) (ws : List ℕ) (query h : ℕ) (ends scores : List ℕ) (i first count : ℕ) (buffer₀ buffer : List ℕ) : Type 0 where
-  pub asked : PlanParts n T ws query h ends scores buffer
+pub record PlanSoFar (n T : ℕ) (ws : List ℕ) (base query h : ℕ) (ends scores : List ℕ) (i first count : ℕ) (buffer₀ buffer : List ℕ) : Type 0 where
+  pub asked : PlanParts n T ws base query h ends scores buffer
   pub high : i ≤ h
   pub number : count ≡ i
   pub next : first ≡ nextFirst 0 (take i ends)
   pub low : i < h → first ≤ getD ends i 0
-  pub appended : AppendsCores (ascii "PT") 13 (partsFrom n ws query 0 (take i ends)) 0 count buffer₀ buffer
+  pub appended : AppendsCores (ascii "PT") 13 (partsFrom n ws base query 0 (take i ends)) 0 count buffer₀ buffer
 
 -- a buffer of the same length does as well
-same-room : {n T : ℕ} {ws : List ℕ} {query h : ℕ} {ends scores x y : List ℕ} → length y ≡ length x → PlanParts n T ws query h ends scores x → PlanParts n T ws query h ends scores y
-same-room e p = record { lent = p .lent; scored = p .scored; cutting = p .cutting; ends-size = p .ends-size; room = omega (arith, p .room) }
+same-room : {n T : ℕ} {ws : List ℕ} {base query h : ℕ} {ends scores x y : List ℕ} → length y ≡ length x → PlanParts n T ws base query h ends scores x → PlanParts n T ws base query h ends scores y
+same-room e p = record { lent = p .lent; reviewed = p .reviewed; scored = p .scored; cutting = p .cutting; ends-size = p .ends-size; room = omega (arith, p .room) }
 
 -- there are no more parts than ticks
-pub parts-few : {n T : ℕ} {ws : List ℕ} {query h : ℕ} {ends scores buffer : List ℕ} → PlanParts n T ws query h ends scores buffer → h ≤ maxTicks
+pub parts-few : {n T : ℕ} {ws : List ℕ} {base query h : ℕ} {ends scores buffer : List ℕ} → PlanParts n T ws base query h ends scores buffer → h ≤ maxTicks
 parts-few {h = h} {ends = ends} p = omega (arith, p .cutting .count, p .ends-size, length-take h ends)
 
-pub plan-none : {n T : ℕ} {ws : List ℕ} {query h : ℕ} {ends scores given buffer : List ℕ} → length buffer ≡ length given → PlanParts n T ws query h ends scores given → PlanSoFar n T ws query h ends scores 0 0 0 buffer buffer
+pub plan-none : {n T : ℕ} {ws : List ℕ} {base query h : ℕ} {ends scores given buffer : List ℕ} → length buffer ≡ length given → PlanParts n T ws base query h ends scores given → PlanSoFar n T ws base query h ends scores 0 0 0 buffer buffer
 unfolding partsFrom nextFirst
 plan-none e p = record { asked = same-room e p; high = zero-le; number = refl; next = refl; low = λ l. zero-le; appended = appends-none }
 
-module _ {n T : ℕ} {ws : List ℕ} {query h : ℕ} {ends scores : List ℕ} {i first count : ℕ} {buffer₀ buffer : List ℕ} (s : PlanSoFar n T ws query h ends scores i first count buffer₀ buffer) where
+module _ {n T : ℕ} {ws : List ℕ} {base query h : ℕ} {ends scores : List ℕ} {i first count : ℕ} {buffer₀ buffer : List ℕ} (s : PlanSoFar n T ws base query h ends scores i first count buffer₀ buffer) where
   pub plan-few : count ≤ maxTicks
   plan-few = omega (arith, parts-few (s .asked), s .number, s .high)
 
@@ -87,18 +87,18 @@ module _ {n T : ℕ} {ws : List ℕ} {query h : ℕ} {ends scores : List ℕ} {i
     pub plan-place : first * 96 + getD ends i 0 < 9216
     plan-place = omega (arith, plan-span .rising, plan-span .inside, limits-of (s .asked .lent .limits) .short)
 
-    pub plan-score : getD scores (first * 96 + getD ends i 0) 0 ≡ scoreOn n ws query first (getD ends i 0)
+    pub plan-score : getD scores (first * 96 + getD ends i 0) 0 ≡ scoreOn n ws base query first (getD ends i 0)
     unfolding tableScore
     plan-score = s .asked .scored .score first (getD ends i 0) (omega (arith, plan-span .rising, plan-span .inside)) (plan-span .rising) (plan-span .inside)
 
     pub plan-room : 13 + 13 * count + 13 ≤ length buffer
     plan-room = omega (arith, s .asked .room, s .number)
 
-    pub plan-next : {last count′ : ℕ} {buffer′ : List ℕ} → last ≡ getD ends i 0 → AppendsCores (ascii "PT") 13 (partOn n ws query first last ∷ []) count count′ buffer buffer′
-        → PlanSoFar n T ws query h ends scores (i + 1) (last + 1) count′ buffer₀ buffer′
+    pub plan-next : {last count′ : ℕ} {buffer′ : List ℕ} → last ≡ getD ends i 0 → AppendsCores (ascii "PT") 13 (partOn n ws base query first last ∷ []) count count′ buffer buffer′
+        → PlanSoFar n T ws base query h ends scores (i + 1) (last + 1) count′ buffer₀ buffer′
     plan-next {last} {count′} {buffer′} e a =
         let t : take (suc i) ends ≡ take i ends ++ (getD ends i 0 ∷ []) = take-suc ends i 0 (omega (arith, parts-few (s .asked), s .asked .ends-size)) in
-        let p : partsFrom n ws query 0 (take (suc i) ends) ≡ partsFrom n ws query 0 (take i ends) ++ (partOn n ws query first last ∷ []) = rw (t, parts-more n ws query 0 (take i ends) (getD ends i 0), ← s .next, ← e) in
+        let p : partsFrom n ws base query 0 (take (suc i) ends) ≡ partsFrom n ws base query 0 (take i ends) ++ (partOn n ws base query first last ∷ []) = rw (t, parts-more n ws base query 0 (take i ends) (getD ends i 0), ← s .next, ← e) in
         let y : nextFirst 0 (take (suc i) ends) ≡ suc (getD ends i 0) = ap (nextFirst 0) t ∙ next-more 0 (take i ends) (getD ends i 0) in
         let z : last + 1 ≡ suc (getD ends i 0) = omega arith in
         rw add-one (record {
@@ -111,23 +111,23 @@ module _ {n T : ℕ} {ws : List ℕ} {query h : ℕ} {ends scores : List ℕ} {i
         })
 
 -- the header and the end make it a plan
-pub plan-end : {n T : ℕ} {ws : List ℕ} {query h : ℕ} {ends scores : List ℕ} {i first count : ℕ} {buffer₀ buffer : List ℕ} (given left header : List ℕ)
-    → PlanSoFar n T ws query h ends scores i first count buffer₀ buffer → h ≤ i → 13 ≤ length given
+pub plan-end : {n T : ℕ} {ws : List ℕ} {base query h : ℕ} {ends scores : List ℕ} {i first count : ℕ} {buffer₀ buffer : List ℕ} (given left header : List ℕ)
+    → PlanSoFar n T ws base query h ends scores i first count buffer₀ buffer → h ≤ i → 13 ≤ length given
     → header ≡ encodeCore (ascii "PH") (record { order = n; first = T; last = h; members = query }) → buffer₀ ≡ place 0 header given
-    → left ≡ place (13 + 13 * count) (encode (End count)) buffer → EncodesPlan n T ws query h ends given left
+    → left ≡ place (13 + 13 * count) (encode (End count)) buffer → EncodesPlan n T ws base query h ends given left
 unfolding planBytes encodeCore
-plan-end {n} {T} {ws} {query} {h} {ends} {i = i} {first} {count} {buffer₀} {buffer} given left header s l g q e f =
+plan-end {n} {T} {ws} {base} {query} {h} {ends} {i = i} {first} {count} {buffer₀} {buffer} given left header s l g q e f =
     let j : i ≡ h = omega (arith, s .high) in
     let c : count ≡ h = omega (arith, s .number) in
-    let a : AppendsCores (ascii "PT") 13 (partsFrom n ws query 0 (take h ends)) 0 count buffer₀ buffer = rw j at (s .appended) in
+    let a : AppendsCores (ascii "PT") 13 (partsFrom n ws base query 0 (take h ends)) 0 count buffer₀ buffer = rw j at (s .appended) in
     let m : 13 + 13 * count + length (encode (End count)) ≡ 19 + 13 * h = omega (arith, length-encode (End count)) in
     let k : length header ≡ 13 = ap length q ∙ encode-core-length (ascii "PH") refl (record { order = n; first = T; last = h; members = query }) in
     let head : take 13 buffer₀ ≡ header = rw k at (ap (take (0 + length header)) e ∙ take-place 0 header given (omega arith)) in
-    let front : take (19 + 13 * h) left ≡ planBytes n T h query (partsFrom n ws query 0 (take h ends)) =
+    let front : take (19 + 13 * h) left ≡ planBytes n T h query (partsFrom n ws base query 0 (take h ends)) =
     ap₂ (λ (x : ℕ) (y : List ℕ). take x y) (sym m) f
     ∙ take-place (13 + 13 * count) (encode (End count)) buffer (omega (arith, s .asked .room))
-    ∙ ap₂ _++_ (a .bytes ∙ ap (λ (x : List ℕ). x ++ encodeCores (ascii "PT") (partsFrom n ws query 0 (take h ends))) (head ∙ q)) (ap (λ (x : ℕ). encode (End x)) c)
-    ∙ append-assoc (ascii "PH" ++ (n ∷ T ∷ h ∷ littleEndian 8 query)) (encodeCores (ascii "PT") (partsFrom n ws query 0 (take h ends))) (encode (End h)) in
+    ∙ ap₂ _++_ (a .bytes ∙ ap (λ (x : List ℕ). x ++ encodeCores (ascii "PT") (partsFrom n ws base query 0 (take h ends))) (head ∙ q)) (ap (λ (x : ℕ). encode (End x)) c)
+    ∙ append-assoc (ascii "PH" ++ (n ∷ T ∷ h ∷ littleEndian 8 query)) (encodeCores (ascii "PT") (partsFrom n ws base query 0 (take h ends))) (encode (End h)) in
     let laid : drop 13 buffer₀ ≡ drop 13 given = rw k at (ap (drop (0 + length header)) e ∙ drop-place 0 header given (omega arith)) in
     let back : drop (19 + 13 * h) left ≡ drop (19 + 13 * h) given =
     ap₂ (λ (x : ℕ) (y : List ℕ). drop x y) (sym m) f

@@ -12,74 +12,67 @@ use Rattle.sets.specs.Sets.{isSub, full}
 use Rattle.sets.proofs.Bools.{and-in, and-left, and-right, to-false}
 use Rattle.records.specs.Limits.{maxTicks}
 use Rattle.records.specs.Outcomes.{Outcome, refused, success, refuseIf}
-use Rattle.days.specs.Calls.{checkOf}
 use Rattle.log.specs.Buffers.{deliver}
-use Rattle.log.proofs.Delivering.{deliver-refused, deliver-passed, deliver-short, deliver-fits}
+use Rattle.log.proofs.Delivering.{deliver-short, deliver-fits}
 use Rattle.cuts.specs.Cuttings.{Cutting}
 use Rattle.cuts.specs.Sums.{bestEnds, tableScore, endsOf}
 use Rattle.cuts.proofs.Sums.{best-ends, ends-same}
 use Rattle.cuts.proofs.EndsOf.{ends-of}
-use Rattle.spans.specs.Plans.{scoreOn, partsFrom, partsOf, isQuery, isParts}
+use Rattle.spans.specs.Plans.{scoreOn, partsFrom, partsOf, isQuery, isReviewedQuery, isParts}
 use Rattle.spans.specs.Encoding.{planBytes}
 use Rattle.spans.proofs.MostGroups.{plan-length}
 use Rattle.spans.proofs.PlanParts.{parts-length}
 use Rattle.groups.specs.Scoring.{Scores}
-use Rattle.groups.specs.Calls.{planJudged, planOf}
+use Rattle.groups.specs.Calls.{planJudged}
 
--- 13, 14, and the bytes
-module _ (n T : ℕ) (ws : List ℕ) (query h : ℕ) where
-  pub judged-query : isSub query (full n) ≡ false → planJudged n T ws query h ≡ refused 13 0
+-- 13, 21, 14, and the bytes
+module _ (n T : ℕ) (ws : List ℕ) (base query h : ℕ) where
+  pub judged-query : isSub query (full n) ≡ false → planJudged n T ws base query h ≡ refused 13 0
   unfolding planJudged isQuery refuseIf isnt
   judged-query e = rw e
 
-  pub judged-parts : isSub query (full n) ≡ true → ((1 ≤ h) × (h ≤ T) → ⊥) → planJudged n T ws query h ≡ refused 14 0
-  unfolding planJudged isQuery isParts refuseIf isnt
-  judged-parts e f = rw (e, to-false (leb 1 h and leb h T) (λ g. f (leb-true _ _ (and-left _ _ g), leb-true _ _ (and-right _ _ g))))
+  pub judged-reviewed : isSub query (full n) ≡ true → isSub query base ≡ false → planJudged n T ws base query h ≡ refused 21 0
+  unfolding planJudged isQuery isReviewedQuery refuseIf isnt
+  judged-reviewed e f = rw (e, f)
 
-  pub judged-plan : isSub query (full n) ≡ true → 1 ≤ h → h ≤ T → planJudged n T ws query h ≡ success (planBytes n T h query (partsOf n T ws query h))
-  unfolding planJudged isQuery isParts refuseIf isnt
-  judged-plan e l m = rw (e, and-in (leb 1 h) (leb h T) (le-leb _ _ l) (le-leb _ _ m))
+  pub judged-parts : isSub query (full n) ≡ true → isSub query base ≡ true → ((1 ≤ h) × (h ≤ T) → ⊥) → planJudged n T ws base query h ≡ refused 14 0
+  unfolding planJudged isQuery isReviewedQuery isParts refuseIf isnt
+  judged-parts e f g = rw (e, f, to-false (leb 1 h and leb h T) (λ x. g (leb-true _ _ (and-left _ _ x), leb-true _ _ (and-right _ _ x))))
 
-  -- the refusal of the check first, and then as the query and the parts are judged
-  module _ (buffer : List ℕ) where
-    pub plan-refused : (number offset : ℕ) → checkOf n T ws ≡ refused number offset → planOf n T ws query h buffer ≡ record { answer = refused number offset; buffer = buffer }
-    unfolding planOf
-    plan-refused number offset e = deliver-refused _ _ buffer number offset e
-
-    pub plan-passed : checkOf n T ws ≡ success tt → planOf n T ws query h buffer ≡ deliver (planJudged n T ws query h) buffer
-    unfolding planOf
-    plan-passed e = deliver-passed _ _ buffer tt e
+  pub judged-plan : isSub query (full n) ≡ true → isSub query base ≡ true → 1 ≤ h → h ≤ T → planJudged n T ws base query h ≡ success (planBytes n T h query (partsOf n T ws base query h))
+  unfolding planJudged isQuery isReviewedQuery isParts refuseIf isnt
+  judged-plan e f l m = rw (e, f, and-in (leb 1 h) (leb h T) (le-leb _ _ l) (le-leb _ _ m))
 
 -- ends that cut a day into h runs, and into the parts of the plan
-pub record PlanEnds (n T : ℕ) (ws : List ℕ) (query h : ℕ) (ends : List ℕ) : Type 0 where
+pub record PlanEnds (n T : ℕ) (ws : List ℕ) (base query h : ℕ) (ends : List ℕ) : Type 0 where
   pub cutting : Cutting T h (take h ends)
-  pub parts : partsFrom n ws query 0 (take h ends) ≡ partsOf n T ws query h
+  pub parts : partsFrom n ws base query 0 (take h ends) ≡ partsOf n T ws base query h
 
 -- a plan that was asked for has the length that h says
-module _ (n T : ℕ) (ws : List ℕ) (query h : ℕ) (q : isSub query (full n) ≡ true) (l : 1 ≤ h) (m : h ≤ T) (buffer : List ℕ) where
+module _ (n T : ℕ) (ws : List ℕ) (base query h : ℕ) (q : isSub query (full n) ≡ true) (v : isSub query base ≡ true) (l : 1 ≤ h) (m : h ≤ T) (buffer : List ℕ) where
   planned : List ℕ
-  planned = planBytes n T h query (partsOf n T ws query h)
+  planned = planBytes n T h query (partsOf n T ws base query h)
 
   planned-size : length planned ≡ 19 + 13 * h
   unfolding planned partsOf
-  planned-size = plan-length n T h query (partsOf n T ws query h) (parts-length n ws query 0 (bestEnds (scoreOn n ws query) T h) ∙ best-ends (scoreOn n ws query) T h l m .best .cutting .count)
+  planned-size = plan-length n T h query (partsOf n T ws base query h) (parts-length n ws base query 0 (bestEnds (scoreOn n ws base query) T h) ∙ best-ends (scoreOn n ws base query) T h l m .best .cutting .count)
 
   -- a buffer that is shorter gets 9,
-  pub planned-short : length buffer < 19 + 13 * h → (refused 9 0 ≡ deliver (planJudged n T ws query h) buffer .answer) × (buffer ≡ deliver (planJudged n T ws query h) buffer .buffer)
+  pub planned-short : length buffer < 19 + 13 * h → (refused 9 0 ≡ deliver (planJudged n T ws base query h) buffer .answer) × (buffer ≡ deliver (planJudged n T ws base query h) buffer .buffer)
   unfolding planned
-  planned-short s = let d = ap (λ (o : Outcome (List ℕ)). deliver o buffer) (judged-plan n T ws query h q l m) ∙ deliver-short planned buffer (omega (arith, planned-size)) in (rw d refl, rw d refl)
+  planned-short s = let d = ap (λ (o : Outcome (List ℕ)). deliver o buffer) (judged-plan n T ws base query h q v l m) ∙ deliver-short planned buffer (omega (arith, planned-size)) in (rw d refl, rw d refl)
 
   -- and one that holds the plan has it in front
-  pub planned-fits : {left : List ℕ} → 19 + 13 * h ≤ length buffer → left ≡ planBytes n T h query (partsOf n T ws query h) ++ drop (19 + 13 * h) buffer
-      → (success (19 + 13 * h) ≡ deliver (planJudged n T ws query h) buffer .answer) × (left ≡ deliver (planJudged n T ws query h) buffer .buffer)
+  pub planned-fits : {left : List ℕ} → 19 + 13 * h ≤ length buffer → left ≡ planBytes n T h query (partsOf n T ws base query h) ++ drop (19 + 13 * h) buffer
+      → (success (19 + 13 * h) ≡ deliver (planJudged n T ws base query h) buffer .answer) × (left ≡ deliver (planJudged n T ws base query h) buffer .buffer)
   unfolding planned
-  planned-fits s e = let d = ap (λ (o : Outcome (List ℕ)). deliver o buffer) (judged-plan n T ws query h q l m) ∙ deliver-fits planned buffer (omega (arith, planned-size)) in
+  planned-fits s e = let d = ap (λ (o : Outcome (List ℕ)). deliver o buffer) (judged-plan n T ws base query h q v l m) ∙ deliver-fits planned buffer (omega (arith, planned-size)) in
       (rw d (ap (λ (x : ℕ). success x) (sym planned-size)), rw d (e ∙ ap (λ (x : ℕ). planned ++ drop x buffer) (sym planned-size)))
 
 -- those found from a table of the scores are such
-pub table-ends : {n T : ℕ} {ws : List ℕ} {query h : ℕ} {scores : List ℕ} (ends : List ℕ) → Scores n T ws query T scores → 1 ≤ h → h ≤ T → T ≤ maxTicks → ends ≡ endsOf scores T h
-    → PlanEnds n T ws query h ends
+pub table-ends : {n T : ℕ} {ws : List ℕ} {base query h : ℕ} {scores : List ℕ} (ends : List ℕ) → Scores n T ws base query T scores → 1 ≤ h → h ≤ T → T ≤ maxTicks → ends ≡ endsOf scores T h
+    → PlanEnds n T ws base query h ends
 unfolding partsOf
-table-ends {n} {T} {ws} {query} {h} {scores} ends s l m w e =
-    let f : take h ends ≡ bestEnds (scoreOn n ws query) T h = ap (take h) e ∙ ends-of scores T h l m w ∙ ends-same (tableScore scores) (scoreOn n ws query) T h (λ x y p q. s .score x y (omega arith) p q) l m in
-    record { cutting = rw f (best-ends (scoreOn n ws query) T h l m .best .cutting); parts = ap (partsFrom n ws query 0) f }
+table-ends {n} {T} {ws} {base} {query} {h} {scores} ends s l m w e =
+    let f : take h ends ≡ bestEnds (scoreOn n ws base query) T h = ap (take h) e ∙ ends-of scores T h l m w ∙ ends-same (tableScore scores) (scoreOn n ws base query) T h (λ x y p q. s .score x y (omega arith) p q) l m in
+    record { cutting = rw f (best-ends (scoreOn n ws base query) T h l m .best .cutting); parts = ap (partsFrom n ws base query 0) f }

@@ -5,62 +5,63 @@ use Prim.Native.Nat.{ℕ}
 use native.Mathlib.Omega.{arith}
 use lib.ListN.{take}
 use borrow.Author.Tests.{leb-true}
-use Rattle.sets.specs.Sets.{full}
 use Rattle.sets.proofs.Bools.{and-left, and-right, isnt-false}
-use Rattle.sets.proofs.Sets.{is-sub-in, is-sub-of}
+use Rattle.sets.proofs.Sets.{sub-trans, is-sub-in, is-sub-of}
 use Rattle.records.specs.Outcomes.{Outcome, success, andThen}
 use Rattle.records.proofs.Outcomes.{success-same, refuse-passed, then-passed}
 use Rattle.records.proofs.WithinLimits.{limits-of}
-use Rattle.days.specs.Calls.{checkOf}
-use Rattle.days.proofs.Checks.{check-day, check-passed}
 use Rattle.log.specs.Buffers.{deliver}
-use Rattle.log.proofs.Delivering.{deliver-short, deliver-fits, deliver-success}
-use Rattle.spans.specs.Plans.{partsOf, isQuery, isParts}
+use Rattle.log.proofs.Delivering.{deliver-passed, deliver-short, deliver-fits, deliver-success}
+use Rattle.spans.specs.Plans.{partsOf, isReviewedQuery, isParts}
 use Rattle.spans.specs.Encoding.{planBytes, planRecords}
 use Rattle.spans.specs.PlanStatement.{PlanStatement, PlanAsked}
 use Rattle.spans.proofs.Decoding.{plan-said}
 use Rattle.spans.proofs.PlanParts.{parts-stated, plan-count, plan-small}
-use Rattle.groups.specs.Calls.{planJudged, planOf}
+use Rattle.groups.specs.Calls.{reviewOf, planJudged, planOf}
 use Rattle.groups.specs.ShiftPlans.{PlansShifts, PlanShown}
-use Rattle.groups.proofs.PlanCall.{judged-plan, plan-passed}
+use Rattle.groups.proofs.ReviewCall.{review-passed, review-day}
+use Rattle.groups.proofs.PlanCall.{judged-plan}
 
 -- the bytes of a plan that was asked for say its parts
-parts-said : {n T : ℕ} {ws : List ℕ} {query h : ℕ} → PlanAsked n T ws query h → planRecords (planBytes n T h query (partsOf n T ws query h)) ≡ partsOf n T ws query h
-parts-said {n} {T} {ws} {query} {h} a =
+parts-said : {n T : ℕ} {ws : List ℕ} {base query h : ℕ} → PlanAsked n T ws base query h → planRecords (planBytes n T h query (partsOf n T ws base query h)) ≡ partsOf n T ws base query h
+parts-said {n} {T} {ws} {base} {query} {h} a =
     let l = limits-of (a .lent .limits) in
-    plan-said n T h query (partsOf n T ws query h) (plan-small a) (plan-count a) (omega (arith, a .enough, l .short))
+    plan-said n T h query (partsOf n T ws base query h) (plan-small a) (plan-count a) (omega (arith, a .enough, l .short))
 
 -- The call keeps its promise.
 pub plans-shifts : PlansShifts planOf
-plans-shifts n T ws query h buffer a = record {
-  parts = partsOf n T ws query h;
+unfolding planOf
+plans-shifts n T ws base query h buffer a = record {
+  parts = partsOf n T ws base query h;
   stated = parts-stated a;
   said = parts-said a;
   succeeds = λ l. passes ∙ deliver-fits _ buffer l;
   measures = λ l. passes ∙ deliver-short _ buffer l;
 }
   where
-    passes : planOf n T ws query h buffer ≡ deliver (success (planBytes n T h query (partsOf n T ws query h))) buffer
+    passes : planOf n T ws base query h buffer ≡ deliver (success (planBytes n T h query (partsOf n T ws base query h))) buffer
     passes =
-        plan-passed n T ws query h buffer (check-day n T ws (a .lent .limits) (a .lent .enough) (a .lent .day))
-        ∙ ap (λ (o : Outcome (List ℕ)). deliver o buffer) (judged-plan n T ws query h (is-sub-in (a .named)) (a .some) (a .enough))
+        deliver-passed _ _ buffer tt (review-passed n T ws base (a .lent) (a .reviewed))
+        ∙ ap (λ (o : Outcome (List ℕ)). deliver o buffer) (judged-plan n T ws base query h (is-sub-in (sub-trans (a .named) (a .reviewed .named))) (is-sub-in (a .named)) (a .some) (a .enough))
 
 -- So whatever was lent: where the call succeeds, what it was asked for was a plan, and the bytes in front say parts of which the plan statement
 -- holds.
-pub plan-shown : (n T : ℕ) (ws : List ℕ) (query h : ℕ) (lent : List ℕ) (answer : Outcome ℕ) (left : List ℕ) → answer ≡ planOf n T ws query h lent .answer → left ≡ planOf n T ws query h lent .buffer
-    → PlanShown n T ws query h answer left
-unfolding planOf planJudged isQuery isParts
-plan-shown n T ws query h lent answer left e f = record { parts = shown }
+pub plan-shown : (n T : ℕ) (ws : List ℕ) (base query h : ℕ) (lent : List ℕ) (answer : Outcome ℕ) (left : List ℕ) → answer ≡ planOf n T ws base query h lent .answer → left ≡ planOf n T ws base query h lent .buffer
+    → PlanShown n T ws base query h answer left
+unfolding planOf planJudged isReviewedQuery isParts
+plan-shown n T ws base query h lent answer left e f = record { parts = shown }
   where
-    shown : (size : ℕ) → answer ≡ success size → PlanStatement n T ws (full n) query h (planRecords (take size left))
+    shown : (size : ℕ) → answer ≡ success size → PlanStatement n T ws base query h (planRecords (take size left))
     shown size g =
-        let d = deliver-success (andThen (checkOf n T ws) (λ x. planJudged n T ws query h)) lent size (sym e ∙ g) in
+        let d = deliver-success (andThen (reviewOf n T ws base) (λ x. planJudged n T ws base query h)) lent size (sym e ∙ g) in
         let c = then-passed _ _ (d .1) in
-        let q = refuse-passed _ _ _ _ (c .2) in
+        let r = review-day n T ws base (c .1) in
+        let q = refuse-passed _ _ _ _ (refuse-passed _ _ _ _ (c .2) .1) in
         let p = refuse-passed _ _ _ _ (q .1) in
         let m = isnt-false _ (p .0) in
-        let a : PlanAsked n T ws query h = record {
-          lent = check-passed n T ws (c .1);
+        let a : PlanAsked n T ws base query h = record {
+          lent = r .0;
+          reviewed = r .1;
           named = is-sub-of _ _ (isnt-false _ (q .0));
           some = leb-true _ _ (and-left _ _ m);
           enough = leb-true _ _ (and-right _ _ m);

@@ -17,6 +17,7 @@ use Rattle.days.specs.Days.{LentDay}
 use Rattle.log.specs.Buffers.{place}
 use Rattle.log.proofs.Delivering.{take-place, drop-place, deliver-fits}
 use Rattle.thresholds.specs.declared.Thresholds.{Thresholds}
+use Rattle.spans.specs.Reviews.{Review}
 use Rattle.spans.specs.Reports.{groupsFrom, groupsOf}
 use Rattle.spans.specs.KeptGroups.{kept}
 use Rattle.spans.specs.Encoding.{spanCount, mostBytes, maxGroups, maxReportBytes, encodeCores, reportBytes}
@@ -29,38 +30,40 @@ use Rattle.groups.proofs.LineLaws.{scores-none, scores-more, line-list}
 
 -- Before the turn of a first tick: the groups that are kept of the spans that start before it are appended, and the orders are those of the spans that start
 -- one tick before it.
-pub record ReportSoFar (n T : ℕ) (ws : List ℕ) (least : Thresholds) (first count : ℕ) (buffer₀ buffer orders members : List ℕ) : Type 0 where
+pub record ReportSoFar (n T : ℕ) (ws : List ℕ) (base : ℕ) (least : Thresholds) (first count : ℕ) (buffer₀ buffer orders members : List ℕ) : Type 0 where
   pub lent : LentDay n T ws
+  pub reviewed : Review n base
   pub high : first ≤ T
   pub room : mostBytes T ≤ length buffer
   pub members-size : length members ≡ maxTicks
-  pub before : ScoresBefore n T ws 0 first orders
-  pub appended : AppendsCores (ascii "GR") 4 (kept least (concatBelow first (groupsFrom n T ws))) 0 count buffer₀ buffer
+  pub before : ScoresBefore n T ws base 0 first orders
+  pub appended : AppendsCores (ascii "GR") 4 (kept least (concatBelow first (groupsFrom n T ws base))) 0 count buffer₀ buffer
 
 short : {n T : ℕ} {ws : List ℕ} → LentDay n T ws → T ≤ maxTicks
 short d = limits-of (d .limits) .short
 
-pub so-far-none : (n T : ℕ) (ws : List ℕ) (least : Thresholds) (buffer : List ℕ) → LentDay n T ws → mostBytes T ≤ length buffer
-    → ReportSoFar n T ws least 0 0 buffer buffer (replicate 97 0) (replicate 96 0)
+pub so-far-none : (n T : ℕ) (ws : List ℕ) (base : ℕ) (least : Thresholds) (buffer : List ℕ) → LentDay n T ws → Review n base → mostBytes T ≤ length buffer
+    → ReportSoFar n T ws base least 0 0 buffer buffer (replicate 97 0) (replicate 96 0)
 unfolding concatBelow kept
-so-far-none n T ws least buffer d r = record {
+so-far-none n T ws base least buffer d v r = record {
   lent = d;
+  reviewed = v;
   high = omega arith;
   room = r;
   members-size = refl;
-  before = scores-none n T ws 0 (short d);
+  before = scores-none n T ws base 0 (short d);
   appended = appends-none;
 }
 
-module _ {n T : ℕ} {ws : List ℕ} {least : Thresholds} {first count : ℕ} {buffer₀ buffer orders members : List ℕ} (s : ReportSoFar n T ws least first count buffer₀ buffer orders members) where
+module _ {n T : ℕ} {ws : List ℕ} {base : ℕ} {least : Thresholds} {first count : ℕ} {buffer₀ buffer orders members : List ℕ} (s : ReportSoFar n T ws base least first count buffer₀ buffer orders members) where
   -- so far there are so few that one more for each last tick has room
   so-far-few : count + (T - first) ≤ spanCount T
-  so-far-few = omega (arith, s .appended .number, kept-le least (concatBelow first (groupsFrom n T ws)), groups-before n T ws first (s .high))
+  so-far-few = omega (arith, s .appended .number, kept-le least (concatBelow first (groupsFrom n T ws base)), groups-before n T ws base first (s .high))
 
   pub so-far-count : (count ≤ spanCount T) × (count ≤ maxGroups)
   so-far-count = (omega (arith, so-far-few), omega (arith, so-far-few, spans-few (short (s .lent))))
 
-  module _ (l : first < T) {orders′ members′ : List ℕ} (c : LineFound n T ws 0 first orders orders′ members′) where
+  module _ (l : first < T) {orders′ members′ : List ℕ} (c : LineFound n T ws base 0 first orders orders′ members′) where
     pub so-far-room : LineRoom T first count orders′ members′ buffer
     so-far-room =
         let h = short (s .lent) in
@@ -73,26 +76,27 @@ module _ {n T : ℕ} {ws : List ℕ} {least : Thresholds} {first count : ℕ} {b
         }
 
     pub so-far-next : {count′ : ℕ} {buffer′ : List ℕ} → AppendsCores (ascii "GR") 4 (kept least (lineList orders′ members′ first T)) count count′ buffer buffer′
-        → ReportSoFar n T ws least (first + 1) count′ buffer₀ buffer′ orders′ members′
+        → ReportSoFar n T ws base least (first + 1) count′ buffer₀ buffer′ orders′ members′
     so-far-next {count′} {buffer′} a =
-        let b : AppendsCores (ascii "GR") 4 (kept least (groupsFrom n T ws first)) count count′ buffer buffer′ = rw (line-list (s .before) c) at a in
+        let b : AppendsCores (ascii "GR") 4 (kept least (groupsFrom n T ws base first)) count count′ buffer buffer′ = rw (line-list (s .before) c) at a in
         let e : first + 1 ≡ suc first = omega arith in
         record {
           lent = s .lent;
+          reviewed = s .reviewed;
           high = omega arith;
           room = omega (arith, s .room, a .size);
           members-size = c .members-size;
           before = rw e (scores-more (s .before) c);
-          appended = appends-more least (groupsFrom n T ws) first (s .appended) b;
+          appended = appends-more least (groupsFrom n T ws base) first (s .appended) b;
         }
 
 -- the header and the end make it a report
-pub so-far-end : {n T : ℕ} {ws : List ℕ} {least : Thresholds} {first count : ℕ} {buffer₀ buffer orders members : List ℕ} (given left : List ℕ)
-    → ReportSoFar n T ws least first count buffer₀ buffer orders members → T ≤ first → 4 ≤ length given → buffer₀ ≡ place 0 (ascii "RH" ++ (n ∷ T ∷ [])) given
-    → left ≡ place (4 + 13 * count) (encode (End count)) buffer → EncodesReport n T ws least count given left
+pub so-far-end : {n T : ℕ} {ws : List ℕ} {base : ℕ} {least : Thresholds} {first count : ℕ} {buffer₀ buffer orders members : List ℕ} (given left : List ℕ)
+    → ReportSoFar n T ws base least first count buffer₀ buffer orders members → T ≤ first → 4 ≤ length given → buffer₀ ≡ place 0 (ascii "RH" ++ (n ∷ T ∷ [])) given
+    → left ≡ place (4 + 13 * count) (encode (End count)) buffer → EncodesReport n T ws base least count given left
 unfolding groupsOf reportBytes
-so-far-end {n} {T} {ws} {least} {first} {count} {buffer₀} {buffer} given left s h l e f =
-    let groups = kept least (concatBelow T (groupsFrom n T ws)) in
+so-far-end {n} {T} {ws} {base} {least} {first} {count} {buffer₀} {buffer} given left s h l e f =
+    let groups = kept least (concatBelow T (groupsFrom n T ws base)) in
     let q : first ≡ T = omega (arith, s .high) in
     let a : AppendsCores (ascii "GR") 4 groups 0 count buffer₀ buffer = rw q at (s .appended) in
     let c : count ≡ length groups = omega (arith, a .number) in
@@ -123,19 +127,19 @@ so-far-end {n} {T} {ws} {least} {first} {count} {buffer₀} {buffer} given left 
 pub most-small : {T : ℕ} → T ≤ maxTicks → mostBytes T ≤ maxReportBytes
 most-small s = omega (arith, spans-few s)
 
-module _ {n T : ℕ} {ws : List ℕ} {least : Thresholds} {count : ℕ} {given left : List ℕ} (e : EncodesReport n T ws least count given left) where
-  encoded-size : length (keptBytes n T ws least) ≡ 10 + 13 * count
-  encoded-size = omega (arith, report-length n T (kept least (groupsOf n T ws)), e .number)
+module _ {n T : ℕ} {ws : List ℕ} {base : ℕ} {least : Thresholds} {count : ℕ} {given left : List ℕ} (e : EncodesReport n T ws base least count given left) where
+  encoded-size : length (keptBytes n T ws base least) ≡ 10 + 13 * count
+  encoded-size = omega (arith, report-length n T (kept least (groupsOf n T ws base)), e .number)
 
   -- its bytes are the first ones
-  pub encoded-front : take (10 + 13 * count) left ≡ keptBytes n T ws least
-  encoded-front = ap (take (10 + 13 * count)) (e .bytes) ∙ take-at (keptBytes n T ws least) (drop (10 + 13 * count) given) (10 + 13 * count) encoded-size
+  pub encoded-front : take (10 + 13 * count) left ≡ keptBytes n T ws base least
+  encoded-front = ap (take (10 + 13 * count)) (e .bytes) ∙ take-at (keptBytes n T ws base least) (drop (10 + 13 * count) given) (10 + 13 * count) encoded-size
 
   -- encoded in the buffer that is lent, it is delivered
-  pub encoded-here : 10 + 13 * count ≤ length given → DeliversReport n T ws least (success (10 + 13 * count)) given left
+  pub encoded-here : 10 + 13 * count ≤ length given → DeliversReport n T ws base least (success (10 + 13 * count)) given left
   encoded-here h =
-      let d = deliver-fits (keptBytes n T ws least) given (omega (arith, encoded-size)) in
+      let d = deliver-fits (keptBytes n T ws base least) given (omega (arith, encoded-size)) in
       record {
         answer = rw d (ap (λ (x : ℕ). success x) (sym encoded-size));
-        leaves = rw d (e .bytes ∙ ap (λ (x : ℕ). keptBytes n T ws least ++ drop x given) (sym encoded-size));
+        leaves = rw d (e .bytes ∙ ap (λ (x : ℕ). keptBytes n T ws base least ++ drop x given) (sym encoded-size));
       }

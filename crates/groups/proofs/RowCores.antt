@@ -1,52 +1,38 @@
--- The highest core found from the rows of a span is that of the span, also among the badges that are in some row.
+-- The cores of the rows of a span are those of the span, among the reviewed badges, also among those of them that are in some row.
 use mathlib.Core.Path.{_≡_, ap, _∙_}
 use mathlib.Core.List.{List}
-use mathlib.Core.Logic.{by-cases}
-use Prim.Native.Nat.{ℕ, _≤_, _<_, min, max}
+use Prim.Native.Nat.{ℕ, _≤_, _<_}
 use native.Mathlib.Nat.{le-refl, le-trans}
-use native.Mathlib.Decide.{decLt}
 use native.Mathlib.Omega.{arith}
 use Rattle.sets.specs.Sets.{In, Sub, full, intersection, size}
 use Rattle.sets.specs.Members.{capacity}
-use Rattle.sets.proofs.Sets.{not-in-none, some, of-intersection-left, of-intersection-right, in-full, of-full, sub-refl, sub-antisym}
+use Rattle.sets.proofs.Sets.{some, in-intersection, of-intersection-left, of-intersection-right, of-full, sub-trans, sub-antisym}
 use Rattle.sets.proofs.Size.{size-none}
 use Rattle.records.proofs.WithinLimits.{limits-of}
 use Rattle.cores.specs.Graphs.{degree}
 use Rattle.cores.specs.Cores.{core}
-use Rattle.cores.specs.Orders.{highestOrder, highestMembers}
 use Rattle.cores.specs.Rows.{graph}
 use Rattle.innermost.specs.Columns.{Symmetric}
-use Rattle.cores.proofs.Degrees.{pairs-refl}
-use Rattle.cores.proofs.Cores.{core-sub, core-cohesive, core-largest, core-mono}
-use Rattle.cores.proofs.Orders.{score-same, highest-same, highest-yes, highest-no}
+use Rattle.cores.proofs.Degrees.{FewerPairs, pairs-refl}
+use Rattle.cores.proofs.Cores.{core-sub, core-cohesive, core-largest, core-mono, core-same}
+use Rattle.cores.proofs.Orders.{SameCores}
 use Rattle.checks.proofs.TickRows.{Unites}
 use Rattle.spans.specs.Spans.{SpanOfDay, spanNeighbours, spanRows}
-use Rattle.spans.specs.SpanCores.{coreOn}
-use Rattle.spans.specs.Plans.{scoreOn}
-use Rattle.spans.proofs.SpanRows.{in-span, of-span, span-row, span-row-none}
-use Rattle.groups.proofs.NumbersCall.{rows-fewer, rows-more}
+use Rattle.spans.proofs.SpanRows.{in-span, of-span, span-row}
 
-module _ (n : ℕ) (ws : List ℕ) (first last : ℕ) (w : n ≤ capacity) {rows : List ℕ} (e : rows ≡ spanRows n ws first last) (query above most : ℕ) where
-  -- its order is the score, between the bounds
-  pub rows-score : highestOrder (graph rows) (full n) query above most ≡ max above (min most (scoreOn n ws query first last))
-  unfolding highestOrder scoreOn
-  rows-score = rw e (ap (λ (x : ℕ). max above (min most x)) (score-same (full n) query (rows-fewer n ws first last w) (rows-more n ws first last w)))
+-- among badges of the day, the rows of a span have the cores of the span
+pub rows-cores : (n : ℕ) (ws : List ℕ) (first last : ℕ) → n ≤ capacity → {base : ℕ} → Sub base (full n) → {rows : List ℕ} → rows ≡ spanRows n ws first last
+    → SameCores (graph rows) (spanNeighbours n ws first last) base base
+rows-cores n ws first last w {base} r e = record { at = λ j l. rw e (core-same base j fewer more) }
+  where
+    row : (u : ℕ) → In base u → graph (spanRows n ws first last) u ≡ spanNeighbours n ws first last u
+    row u i = span-row n ws first last u w (of-full n u (r .at u i))
 
-  -- its members are those of the core of this order, and there are none where no order above the bound has a core
-  rows-members : highestMembers (graph rows) (full n) query above most ≡ highestMembers (spanNeighbours n ws first last) (full n) query above most
-  rows-members = rw e (highest-same (full n) query above most (rows-fewer n ws first last w) (rows-more n ws first last w))
+    fewer : FewerPairs base (graph (spanRows n ws first last)) (spanNeighbours n ws first last)
+    fewer = record { pair = λ u v i j k. rw (row u i) at k }
 
-  pub rows-core : above < min most (scoreOn n ws query first last) → highestMembers (graph rows) (full n) query above most ≡ coreOn n ws (min most (scoreOn n ws query first last)) first last
-  unfolding scoreOn coreOn
-  rows-core h = rows-members ∙ highest-yes (spanNeighbours n ws first last) (full n) query above most h
-
-  pub rows-none : min most (scoreOn n ws query first last) ≤ above → highestMembers (graph rows) (full n) query above most ≡ 0
-  unfolding scoreOn
-  rows-none h = rows-members ∙ highest-no (spanNeighbours n ws first last) (full n) query above most h
-
--- all badges of a day, as a set of the program
-pub sub-capped : {n s : ℕ} → n ≤ capacity → s ≡ full (min n capacity) → Sub s (full n)
-sub-capped {n} w e = let f : min n capacity ≡ n = omega arith in rw (e, f) (sub-refl (full n))
+    more : FewerPairs base (spanNeighbours n ws first last) (graph (spanRows n ws first last))
+    more = record { pair = λ u v i j k. rw (row u i) k }
 
 -- ---- the rows of a day are symmetric, and so the highest core by in-degrees is that by degrees
 
@@ -70,26 +56,29 @@ module _ {n T : ℕ} {ws : List ℕ} {first last : ℕ} (d : SpanOfDay n T ws fi
 
 -- ---- the badges that are in some row
 
-module _ {n T : ℕ} {ws : List ℕ} {first last : ℕ} (d : SpanOfDay n T ws first last) {rows : List ℕ} (e : rows ≡ spanRows n ws first last) {s : ℕ} (b : Unites rows s) where
-  -- they are badges of the day
-  pub within : Sub s (full n)
-  within = record {
-    at = λ v i. let x = b .of v i in in-full n v (by-cases (decLt (x .0) n)
-        (λ l. of-span n ws first last (x .0) v (rw (row d e (x .0) l) at (x .1)) .0)
-        (λ l. absurd (not-in-none v (rw (ap (λ (r : List ℕ). graph r (x .0)) e ∙ span-row-none n ws first last (x .0) (omega arith)) at (x .1)))));
-  }
-
-  -- and every core of order 1 or more is among them
-  pub united-core : (j : ℕ) → 1 ≤ j → core (graph rows) s j ≡ core (graph rows) (full n) j
+-- Every core of order 1 or more, of badges of a set, is among those of the set that are in some row.
+module _ {n T : ℕ} {ws : List ℕ} {first last : ℕ} (d : SpanOfDay n T ws first last) {rows : List ℕ} (e : rows ≡ spanRows n ws first last) {s : ℕ} (b : Unites rows s) {base : ℕ} (r : Sub base (full n)) where
+  member : (j : ℕ) → 1 ≤ j → (v : ℕ) → In (core (graph rows) base j) v → In (intersection s base) v
   unfolding degree
-  united-core j l = sub-antisym _ _
-      (core-mono s (full n) j j within (pairs-refl s (graph rows)) (le-refl j))
-      (core-largest (graph rows) s j _ (record { at = member }) (core-cohesive (graph rows) (full n) j))
-    where
-      member : (v : ℕ) → In (core (graph rows) (full n) j) v → In s v
-      member v i =
-          let m = of-full n v (core-sub (graph rows) (full n) j .at v i) in
-          let p : 1 ≤ size (intersection (graph rows v) (core (graph rows) (full n) j)) = le-trans l (core-cohesive (graph rows) (full n) j .each v i) in
-          let x = some (intersection (graph rows v) (core (graph rows) (full n) j)) (λ z. omega (arith, ap size z, size-none)) in
-          let u = of-full n (x .0) (core-sub (graph rows) (full n) j .at (x .0) (of-intersection-right (graph rows v) (core (graph rows) (full n) j) (x .0) (x .1))) in
-          b .has (x .0) v (omega (arith, u, few d e)) (back d e v (x .0) m u (of-intersection-left (graph rows v) (core (graph rows) (full n) j) (x .0) (x .1)))
+  member j l v i =
+      let within = core-sub (graph rows) base j in
+      let below : (u : ℕ) → In (core (graph rows) base j) u → u < n = λ u k. of-full n u (r .at u (within .at u k)) in
+      let p : 1 ≤ size (intersection (graph rows v) (core (graph rows) base j)) = le-trans l (core-cohesive (graph rows) base j .each v i) in
+      let x = some (intersection (graph rows v) (core (graph rows) base j)) (λ z. omega (arith, ap size z, size-none)) in
+      let u = below (x .0) (of-intersection-right (graph rows v) (core (graph rows) base j) (x .0) (x .1)) in
+      let here = b .has (x .0) v (omega (arith, u, few d e)) (back d e v (x .0) (below v i) u (of-intersection-left (graph rows v) (core (graph rows) base j) (x .0) (x .1))) in
+      in-intersection s base v here (within .at v i)
+
+  fewer-badges : Sub (intersection s base) base
+  fewer-badges = record { at = λ u i. of-intersection-right s base u i }
+
+  pub united-sub : Sub (intersection s base) (full n)
+  united-sub = sub-trans fewer-badges r
+
+  pub united-cores : SameCores (graph rows) (spanNeighbours n ws first last) (intersection s base) base
+  united-cores = record {
+    at = λ j l. sub-antisym _ _
+        (core-mono (intersection s base) base j j fewer-badges (pairs-refl (intersection s base) (graph rows)) (le-refl j))
+        (core-largest (graph rows) (intersection s base) j _ (record { at = member j l }) (core-cohesive (graph rows) base j))
+        ∙ rows-cores n ws first last (few d e) r e .at j l;
+  }

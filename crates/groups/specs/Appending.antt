@@ -42,16 +42,16 @@ pub record LineRoom (T first count : ℕ) (orders members buffer : List ℕ) : T
   pub room : 4 + 13 * (count + (T - first)) ≤ length buffer
 
 -- the bytes of the report that is asked for
-abbrev pub keptBytes : ℕ → ℕ → List ℕ → Thresholds → List ℕ
-keptBytes n T ws least = reportBytes n T (kept least (groupsOf n T ws))
+abbrev pub keptBytes : ℕ → ℕ → List ℕ → ℕ → Thresholds → List ℕ
+keptBytes n T ws base least = reportBytes n T (kept least (groupsOf n T ws base))
 
 -- A day's report is laid over the first bytes of a buffer, and the bytes after it are as they were; and how many records it has.
-pub record EncodesReport (n T : ℕ) (ws : List ℕ) (least : Thresholds) (count : ℕ) (buffer buffer′ : List ℕ) : Type 0 where
-  pub number : count ≡ length (kept least (groupsOf n T ws))
+pub record EncodesReport (n T : ℕ) (ws : List ℕ) (base : ℕ) (least : Thresholds) (count : ℕ) (buffer buffer′ : List ℕ) : Type 0 where
+  pub number : count ≡ length (kept least (groupsOf n T ws base))
   pub few : count ≤ spanCount T
-  pub bytes : buffer′ ≡ keptBytes n T ws least ++ drop (10 + 13 * count) buffer
+  pub bytes : buffer′ ≡ keptBytes n T ws base least ++ drop (10 + 13 * count) buffer
 
 -- The report is put into a buffer, judged by 9: what is answered, and what the buffer then holds.
-pub record DeliversReport (n T : ℕ) (ws : List ℕ) (least : Thresholds) (outcome : Outcome ℕ) (buffer buffer′ : List ℕ) : Type 0 where
-  pub answer : outcome ≡ deliver (success (keptBytes n T ws least)) buffer .answer
-  pub leaves : buffer′ ≡ deliver (success (keptBytes n T ws least)) buffer .buffer
+pub record DeliversReport (n T : ℕ) (ws : List ℕ) (base : ℕ) (least : Thresholds) (outcome : Outcome ℕ) (buffer buffer′ : List ℕ) : Type 0 where
+  pub answer : outcome ≡ deliver (success (keptBytes n T ws base least)) buffer .answer
+  pub leaves : buffer′ ≡ deliver (success (keptBytes n T ws base least)) buffer .buffer

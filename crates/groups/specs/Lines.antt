@@ -8,15 +8,15 @@ use Rattle.spans.specs.Plans.{scoreOn}
 use Rattle.spans.specs.LongerSpans.{scoreBefore, newMembers}
 
 -- scores by last tick: those of the spans that start one tick before first
-pub record ScoresBefore (n T : ℕ) (ws : List ℕ) (query first : ℕ) (orders : List ℕ) : Type 0 where
+pub record ScoresBefore (n T : ℕ) (ws : List ℕ) (base query first : ℕ) (orders : List ℕ) : Type 0 where
   pub size : length orders ≡ suc maxTicks
-  pub score : (last : ℕ) → first ≤ last → last < T → getD orders last 0 ≡ scoreBefore n ws query first last
+  pub score : (last : ℕ) → first ≤ last → last < T → getD orders last 0 ≡ scoreBefore n ws base query first last
   pub end : getD orders T 0 ≡ 0
 
 -- scores and members by last tick: those of the spans that start with first
-pub record LineFound (n T : ℕ) (ws : List ℕ) (query first : ℕ) (orders orders′ members′ : List ℕ) : Type 0 where
+pub record LineFound (n T : ℕ) (ws : List ℕ) (base query first : ℕ) (orders orders′ members′ : List ℕ) : Type 0 where
   pub orders-size : length orders′ ≡ length orders
   pub members-size : length members′ ≡ maxTicks
   pub after : (last : ℕ) → T ≤ last → getD orders′ last 0 ≡ getD orders last 0
-  pub score : (last : ℕ) → first ≤ last → last < T → getD orders′ last 0 ≡ scoreOn n ws query first last
-  pub new : (last : ℕ) → first ≤ last → last < T → getD members′ last 0 ≡ newMembers n ws query first last
+  pub score : (last : ℕ) → first ≤ last → last < T → getD orders′ last 0 ≡ scoreOn n ws base query first last
+  pub new : (last : ℕ) → first ≤ last → last < T → getD members′ last 0 ≡ newMembers n ws base query first last

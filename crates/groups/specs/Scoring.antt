@@ -7,6 +7,7 @@ use Rattle.records.specs.Limits.{maxTicks}
 use Rattle.days.specs.Days.{LentDay}
 use Rattle.cuts.specs.Cuttings.{Cutting}
 use Rattle.cuts.specs.Sums.{tableScore}
+use Rattle.spans.specs.Reviews.{Review}
 use Rattle.spans.specs.Plans.{scoreOn, partsFrom}
 use Rattle.spans.specs.Encoding.{planBytes}
 
@@ -24,18 +25,19 @@ pub record LinePut (T first : ℕ) (orders scores scores′ : List ℕ) : Type 0
   pub before : (f l : ℕ) → f < first → l < maxTicks → tableScore scores′ f l ≡ tableScore scores f l
 
 -- a table with the scores of all runs that start before a tick
-pub record Scores (n T : ℕ) (ws : List ℕ) (query k : ℕ) (scores : List ℕ) : Type 0 where
+pub record Scores (n T : ℕ) (ws : List ℕ) (base query k : ℕ) (scores : List ℕ) : Type 0 where
   pub size : length scores ≡ maxTicks * maxTicks
-  pub score : (first last : ℕ) → first < k → first ≤ last → last < T → tableScore scores first last ≡ scoreOn n ws query first last
+  pub score : (first last : ℕ) → first < k → first ≤ last → last < T → tableScore scores first last ≡ scoreOn n ws base query first last
 
--- what a plan is encoded from: a lent day, the scores of its runs for a query, and the ends of a cutting into h runs
-pub record PlanParts (n T : ℕ) (ws : List ℕ) (query h : ℕ) (ends scores buffer : List ℕ) : Type 0 where
+-- what a plan is encoded from: a lent day, the badges under review, the scores of its runs for a query, and the ends of a cutting into h runs
+pub record PlanParts (n T : ℕ) (ws : List ℕ) (base query h : ℕ) (ends scores buffer : List ℕ) : Type 0 where
   pub lent : LentDay n T ws
-  pub scored : Scores n T ws query T scores
+  pub reviewed : Review n base
+  pub scored : Scores n T ws base query T scores
   pub cutting : Cutting T h (take h ends)
   pub ends-size : length ends ≡ maxTicks
   pub room : 19 + 13 * h ≤ length buffer
 
 -- The plan is laid over the first bytes of a buffer, and the bytes after it are as they were.
-pub record EncodesPlan (n T : ℕ) (ws : List ℕ) (query h : ℕ) (ends buffer buffer′ : List ℕ) : Type 0 where
-  pub bytes : buffer′ ≡ planBytes n T h query (partsFrom n ws query 0 (take h ends)) ++ drop (19 + 13 * h) buffer
+pub record EncodesPlan (n T : ℕ) (ws : List ℕ) (base query h : ℕ) (ends buffer buffer′ : List ℕ) : Type 0 where
+  pub bytes : buffer′ ≡ planBytes n T h query (partsFrom n ws base query 0 (take h ends)) ++ drop (19 + 13 * h) buffer

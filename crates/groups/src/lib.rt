@@ -1,7 +1,7 @@
 // The groups of a day: who stayed in contact with whom throughout a span of ticks. It uses what the log part guarantees of day words.
 //
-// `core_numbers` takes day words and a span to the core number of each badge, `report` takes day words and thresholds to the report of
-// the day's groups that meet them, and `plan` takes day words, a query and a number of parts to the plan of the shift around the query.
+// Each call takes day words and a set of badges under review: `core_numbers` with a span to the core number of each badge, `report` with thresholds to
+// the report of the day's groups that meet them, and `plan` with a query and a number of parts to the plan of the shift around the query.
 mod answer;
 mod day;
 mod encoding;
@@ -10,6 +10,7 @@ mod numbers;
 mod planning;
 mod refusal;
 mod reporting;
+mod reviewing;
 mod rows;
 mod scoring;
 

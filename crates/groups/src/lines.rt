@@ -5,8 +5,9 @@ ghost use lib.ListN.{length};
 ghost use Rattle.sets.specs.Members.{members};
 ghost use Rattle.records.specs.Limits.{maxTicks};
 ghost use Rattle.days.specs.Days.{LentDay};
+ghost use Rattle.spans.specs.Reviews.{Review};
 ghost use Rattle.groups.specs.Lines.{ScoresBefore, LineFound};
-use crate::day::Size;
+use crate::day::Day;
 use crate::rows::first_rows;
 use crate::rows::narrow_to;
 use checks::united;
@@ -16,17 +17,18 @@ use sets::BadgeSet;
 // Finds the scores of a query on the spans that start with a tick, by last tick, and the members of the cores whose order is above the score
 // on the span that is one tick longer at its start. The orders that are given are those of these longer spans: each is a lower bound, and the
 // score on the span that is one tick shorter at its end is an upper bound, since scores fall as spans grow. Where the bounds meet, they are
-// the score, and no row is looked at: rows are narrowed only where they are needed. A badge that is in no row is in no core.
+// the score, and no row is looked at: rows are narrowed only where they are needed. A badge that is in no row is in no core, and one that is not under
+// review is in none either.
 pub(crate) fn find_line(
     words: &[u64],
-    day: Size,
+    day: Day,
     first: usize,
     query: BadgeSet,
     orders: &mut [u8],
     cores: &mut [u64],
 )
-    requires { ⌜ LentDay (day .badges) (day .ticks) (now words) × (first < day .ticks) × ScoresBefore (day .badges) (day .ticks) (now words) (members query) first (now orders) × (length (now cores) ≡ maxTicks) ⌝ }
-    ensures { λ _. ⌜ LineFound (day .badges) (day .ticks) (now (words .entry)) (members query) first (now (orders .entry)) (now (orders .exit)) (now (cores .exit)) ⌝ }
+    requires { ⌜ LentDay (day .badges) (day .ticks) (now words) × Review (day .badges) (members (day .review)) × (first < day .ticks) × ScoresBefore (day .badges) (day .ticks) (now words) (members (day .review)) (members query) first (now orders) × (length (now cores) ≡ maxTicks) ⌝ }
+    ensures { λ _. ⌜ LineFound (day .badges) (day .ticks) (now (words .entry)) (members (day .review)) (members query) first (now (orders .entry)) (now (orders .exit)) (now (cores .exit)) ⌝ }
 {
     let mut rows = [0u64; 64];
     first_rows(&mut rows, words, day, first);
@@ -42,7 +44,9 @@ pub(crate) fn find_line(
         }
         narrow_to(&mut rows, words, day, first, reached, last);
         reached = last;
-        let core = highest_core(rows, united(&rows), query, lower, upper);
+        let all = united(&rows);
+        let base = all.intersection(day.review);
+        let core = highest_core(rows, base, query, lower, upper);
         let members = core.members;
         upper = core.order;
         orders[last] = core.order;

@@ -13,6 +13,10 @@ pub enum Refusal {
     InvalidParts,
     // 17: a threshold outside its range.
     ThresholdOutOfRange,
+    // 20: no badge is under review, or one of n or more is.
+    InvalidReview,
+    // 21: the query has a badge that is not under review.
+    QueryNotReviewed,
 }
 
 impl Refusal {
@@ -26,6 +30,8 @@ impl Refusal {
             Refusal::ForeignQuery => 13,
             Refusal::InvalidParts => 14,
             Refusal::ThresholdOutOfRange => 17,
+            Refusal::InvalidReview => 20,
+            Refusal::QueryNotReviewed => 21,
         }
     }
 
@@ -39,6 +45,8 @@ impl Refusal {
             Refusal::ForeignQuery => 0,
             Refusal::InvalidParts => 0,
             Refusal::ThresholdOutOfRange => 0,
+            Refusal::InvalidReview => 0,
+            Refusal::QueryNotReviewed => 0,
         }
     }
 }

@@ -11,6 +11,7 @@ ghost use Rattle.sets.specs.Tables.{keepIf};
 ghost use Rattle.records.specs.Limits.{maxTicks};
 ghost use Rattle.days.specs.Days.{LentDay};
 ghost use Rattle.log.specs.Buffers.{deliver};
+ghost use Rattle.spans.specs.Reviews.{Review};
 ghost use Rattle.spans.specs.KeptGroups.{kept};
 ghost use Rattle.spans.specs.Encoding.{mostBytes};
 ghost use Rattle.groups.specs.Refusals.{writtenOutcome};
@@ -19,14 +20,14 @@ ghost use Rattle.groups.specs.Calls.{reportJudged, reportOf};
 ghost use Rattle.groups.specs.GroupReports.{Reported};
 use crate::answer::Written;
 use crate::answer::delivered;
-use crate::day::Size;
+use crate::day::Day;
 use crate::encoding::Shown;
 use crate::encoding::append_record;
 use crate::lines::find_line;
 use crate::refusal::Refusal;
-use log::Checked;
+use crate::reviewing::Judged;
+use crate::reviewing::judge_review;
 use log::Record;
-use log::check_words;
 use log::put;
 use log::put_record;
 use sets::BadgeSet;
@@ -84,9 +85,9 @@ fn append_line(
 }
 
 // Encodes the report of a day in a buffer that holds any report of so many ticks, and answers how many groups it keeps.
-fn encode_report(words: &[u64], day: Size, least: Thresholds, buffer: &mut [u8]) -> usize
-    requires { ⌜ LentDay (day .badges) (day .ticks) (now words) × (mostBytes (day .ticks) ≤ length (now buffer)) ⌝ }
-    ensures { λ r. ⌜ EncodesReport (day .badges) (day .ticks) (now (words .entry)) least r (now (buffer .entry)) (now (buffer .exit)) ⌝ }
+fn encode_report(words: &[u64], day: Day, least: Thresholds, buffer: &mut [u8]) -> usize
+    requires { ⌜ LentDay (day .badges) (day .ticks) (now words) × Review (day .badges) (members (day .review)) × (mostBytes (day .ticks) ≤ length (now buffer)) ⌝ }
+    ensures { λ r. ⌜ EncodesReport (day .badges) (day .ticks) (now (words .entry)) (members (day .review)) least r (now (buffer .entry)) (now (buffer .exit)) ⌝ }
 {
     let header = [b'R', b'H', day.badges as u8, day.ticks as u8];
     put(buffer, 0, &header);
@@ -125,9 +126,9 @@ fn most_bytes(ticks: usize) -> usize
 
 // Puts a report into the buffer that is lent: judged by 9. Where the buffer holds any report of so many ticks, 9 cannot come, and the report is made in
 // it, so that no memory has to be cleared; else it is made in memory of its own, and measured.
-fn report_groups(words: &[u64], day: Size, least: Thresholds, buffer: &mut [u8]) -> Written
-    requires { ⌜ LentDay (day .badges) (day .ticks) (now words) ⌝ }
-    ensures { λ r. ⌜ DeliversReport (day .badges) (day .ticks) (now (words .entry)) least (writtenOutcome r) (now (buffer .entry)) (now (buffer .exit)) ⌝ }
+fn report_groups(words: &[u64], day: Day, least: Thresholds, buffer: &mut [u8]) -> Written
+    requires { ⌜ LentDay (day .badges) (day .ticks) (now words) × Review (day .badges) (members (day .review)) ⌝ }
+    ensures { λ r. ⌜ DeliversReport (day .badges) (day .ticks) (now (words .entry)) (members (day .review)) least (writtenOutcome r) (now (buffer .entry)) (now (buffer .exit)) ⌝ }
 {
     let most = most_bytes(day.ticks);
     if most <= buffer.len() {
@@ -139,40 +140,47 @@ fn report_groups(words: &[u64], day: Size, least: Thresholds, buffer: &mut [u8])
     delivered(log::deliver(&bytes[..10 + 13 * count], buffer))
 }
 
-// Puts the report of a day whose words have passed into the buffer that is lent: judged by 17 and 9.
+// Puts the report of a day whose words and badges under review have passed into the buffer that is lent: judged by 17 and 9.
 fn report_day(
     words: &[u64],
     badges: usize,
     ticks: usize,
+    review: BadgeSet,
     least: Thresholds,
     buffer: &mut [u8],
 ) -> Written
-    requires { ⌜ LentDay badges ticks (now words) ⌝ }
-    ensures answer { λ r. ⌜ writtenOutcome r ≡ deliver (reportJudged badges ticks (now (words .entry)) least) (now (buffer .entry)) .answer ⌝ }
-    ensures leaves { λ _. ⌜ now (buffer .exit) ≡ deliver (reportJudged badges ticks (now (words .entry)) least) (now (buffer .entry)) .buffer ⌝ }
+    requires { ⌜ LentDay badges ticks (now words) × Review badges (members review) ⌝ }
+    ensures answer { λ r. ⌜ writtenOutcome r ≡ deliver (reportJudged badges ticks (now (words .entry)) (members review) least) (now (buffer .entry)) .answer ⌝ }
+    ensures leaves { λ _. ⌜ now (buffer .exit) ≡ deliver (reportJudged badges ticks (now (words .entry)) (members review) least) (now (buffer .entry)) .buffer ⌝ }
 {
     if !least.in_range() {
         return Written::Refused(Refusal::ThresholdOutOfRange);
     }
-    report_groups(words, Size { badges, ticks }, least, buffer)
+    let day = Day {
+        badges,
+        ticks,
+        review,
+    };
+    report_groups(words, day, least, buffer)
 }
 
-// Puts the report of a day's groups that meet the thresholds into the buffer that is lent, and answers the number of bytes. Refused by 10, 8, 11,
-// 17 and 9, in that order; a refused call changes no byte, and bytes after the answer are never touched. The report is made once, and
-// measured before a buffer that may be too short for it is touched.
+// Puts the report of a day's groups, among the badges under review, that meet the thresholds into the buffer that is lent, and answers the number of
+// bytes. Refused by 10, 8, 11, 20, 17 and 9, in that order; a refused call changes no byte, and bytes after the answer are never touched. The report
+// is made once, and measured before a buffer that may be too short for it is touched.
 pub fn report(
     words: &[u64],
     badges: usize,
     ticks: usize,
+    review: BadgeSet,
     least: Thresholds,
     buffer: &mut [u8],
 ) -> Written
-    ensures answer { λ r. ⌜ writtenOutcome r ≡ reportOf badges ticks (now (words .entry)) least (now (buffer .entry)) .answer ⌝ }
-    ensures leaves { λ _. ⌜ now (buffer .exit) ≡ reportOf badges ticks (now (words .entry)) least (now (buffer .entry)) .buffer ⌝ }
-    ensures groups { λ r. ⌜ Reported badges ticks (now (words .entry)) least (writtenOutcome r) (now (buffer .exit)) ⌝ }
+    ensures answer { λ r. ⌜ writtenOutcome r ≡ reportOf badges ticks (now (words .entry)) (members review) least (now (buffer .entry)) .answer ⌝ }
+    ensures leaves { λ _. ⌜ now (buffer .exit) ≡ reportOf badges ticks (now (words .entry)) (members review) least (now (buffer .entry)) .buffer ⌝ }
+    ensures groups { λ r. ⌜ Reported badges ticks (now (words .entry)) (members review) least (writtenOutcome r) (now (buffer .exit)) ⌝ }
 {
-    match check_words(words, badges, ticks) {
-        Checked::Refused(refusal) => Written::Refused(Refusal::Log(refusal)),
-        Checked::Day => report_day(words, badges, ticks, least, buffer),
+    match judge_review(words, badges, ticks, review) {
+        Judged::Refused(refusal) => Written::Refused(refusal),
+        Judged::Passed => report_day(words, badges, ticks, review, least, buffer),
     }
 }

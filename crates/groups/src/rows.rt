@@ -4,7 +4,7 @@ ghost use lib.ListN.{replicate};
 ghost use Rattle.sets.specs.Members.{capacity};
 ghost use Rattle.spans.specs.Spans.{spanRows, SpanOfDay};
 ghost use Rattle.groups.specs.Steps.{NextTick, Narrows, RowsTo};
-use crate::day::Size;
+use crate::day::Day;
 use crate::day::Span;
 use checks::copy_tick;
 
@@ -24,7 +24,7 @@ pub(crate) fn narrow(rows: &mut [u64], tick: &[u64])
 pub(crate) fn narrow_to(
     rows: &mut [u64],
     words: &[u64],
-    day: Size,
+    day: Day,
     first: usize,
     reached: usize,
     last: usize,
@@ -41,7 +41,7 @@ pub(crate) fn narrow_to(
 }
 
 // Puts the rows of the span of one tick into an array of empty rows.
-pub(crate) fn first_rows(rows: &mut [u64; 64], words: &[u64], day: Size, first: usize)
+pub(crate) fn first_rows(rows: &mut [u64; 64], words: &[u64], day: Day, first: usize)
     requires { ⌜ SpanOfDay (day .badges) (day .ticks) (now words) first first × (now rows ≡ replicate capacity 0) ⌝ }
     ensures { λ _. ⌜ now (rows .exit) ≡ spanRows (day .badges) (now (words .entry)) first first ⌝ }
 {
@@ -51,7 +51,7 @@ pub(crate) fn first_rows(rows: &mut [u64; 64], words: &[u64], day: Size, first: 
 }
 
 // The rows of a span: those of its first tick, narrowed by the others.
-pub(crate) fn span_rows(words: &[u64], day: Size, span: Span) -> [u64; 64]
+pub(crate) fn span_rows(words: &[u64], day: Day, span: Span) -> [u64; 64]
     requires { ⌜ SpanOfDay (day .badges) (day .ticks) (now words) (span .first) (span .last) ⌝ }
     ensures { λ r. ⌜ r ≡ spanRows (day .badges) (now (words .entry)) (span .first) (span .last) ⌝ }
 {

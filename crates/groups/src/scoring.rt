@@ -5,8 +5,9 @@ ghost use lib.ListN.{length};
 ghost use Rattle.sets.specs.Members.{members};
 ghost use Rattle.records.specs.Limits.{maxTicks};
 ghost use Rattle.days.specs.Days.{LentDay};
+ghost use Rattle.spans.specs.Reviews.{Review};
 ghost use Rattle.groups.specs.Scoring.{LinePlaces, LinePut, Scores};
-use crate::day::Size;
+use crate::day::Day;
 use crate::lines::find_line;
 use sets::BadgeSet;
 
@@ -21,9 +22,9 @@ fn put_line(orders: &[u8], first: usize, ticks: usize, scores: &mut [u8])
 }
 
 // Fills a table with the score of every run of a day: a row for each first tick, a column for each last tick.
-pub(crate) fn fill_scores(words: &[u64], day: Size, query: BadgeSet, scores: &mut [u8])
-    requires { ⌜ LentDay (day .badges) (day .ticks) (now words) × (length (now scores) ≡ maxTicks * maxTicks) ⌝ }
-    ensures { λ _. ⌜ Scores (day .badges) (day .ticks) (now (words .entry)) (members query) (day .ticks) (now (scores .exit)) ⌝ }
+pub(crate) fn fill_scores(words: &[u64], day: Day, query: BadgeSet, scores: &mut [u8])
+    requires { ⌜ LentDay (day .badges) (day .ticks) (now words) × Review (day .badges) (members (day .review)) × (length (now scores) ≡ maxTicks * maxTicks) ⌝ }
+    ensures { λ _. ⌜ Scores (day .badges) (day .ticks) (now (words .entry)) (members (day .review)) (members query) (day .ticks) (now (scores .exit)) ⌝ }
 {
     let mut orders = [0u8; 97];
     let mut members = [0u64; 96];

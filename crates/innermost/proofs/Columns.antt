@@ -2,7 +2,7 @@
 use mathlib.Core.Path.{_≡_, refl, sym, ap, _∙_}
 use mathlib.Core.List.{List}
 use mathlib.Core.Logic.{by-cases}
-use Prim.Native.Nat.{ℕ, _+_, _≤_, min, max}
+use Prim.Native.Nat.{ℕ, _+_, _≤_}
 use native.Mathlib.Decide.{ℕ-discrete}
 use native.Mathlib.Omega.{arith}
 use Rattle.sets.specs.Sets.{bit, In, Sub, has, intersection, difference, only, setOf, full, size}
@@ -11,12 +11,12 @@ use Rattle.sets.proofs.Sets.{not-in-none, in-test, has-test, in-intersection, o
 use Rattle.sets.proofs.Size.{size-none, size-mono, size-split, size-only}
 use Rattle.cores.specs.Graphs.{degree}
 use Rattle.cores.specs.Cores.{core}
-use Rattle.cores.specs.Orders.{highestOrder, HighestFound}
+use Rattle.cores.specs.Orders.{HighestFound}
 use Rattle.cores.specs.Rows.{graph, IsHighest}
 use Rattle.innermost.specs.Columns.{transposed, inDegree, Symmetric}
 use Rattle.cores.proofs.Degrees.{FewerPairs}
 use Rattle.cores.proofs.Cores.{core-same}
-use Rattle.cores.proofs.Orders.{score-same, highest-same}
+use Rattle.cores.proofs.Orders.{found-among}
 
 module _ (rows : ℕ → ℕ) where
   -- who has badge v in its row
@@ -119,11 +119,7 @@ module _ (rows : ℕ → ℕ) where
 -- So for symmetric rows the highest core is that of the graph.
 pub symmetric-climbed : {rows : ℕ → ℕ} {base query above most k s : ℕ} → Symmetric rows base → HighestFound (transposed rows base) base query above most k s
     → HighestFound rows base query above most k s
-unfolding highestOrder
-symmetric-climbed {rows} {base} {query} {above} {most} h c = record {
-  order = c .order ∙ ap (λ (x : ℕ). max above (min most x)) (score-same base query (transposed-fewer rows base h) (transposed-more rows base h));
-  members = c .members ∙ highest-same base query above most (transposed-fewer rows base h) (transposed-more rows base h);
-}
+symmetric-climbed {rows} {base} h c = found-among (record { at = λ j l. core-same base j (transposed-fewer rows base h) (transposed-more rows base h) }) c
 
 pub symmetric-highest : {rows : List ℕ} {base query above most k s : ℕ} {rows′ : List ℕ} → Symmetric (graph rows) base
     → IsHighest (transposed (graph rows) base) rows base query above most k s rows′ → IsHighest (graph rows) rows base query above most k s rows′

@@ -11,7 +11,7 @@ use lib.ListN.{length, drop, replicate, length-append, length-drop, length-repli
 use lib.Seq.{take-append-seam, drop-append-seam, take-at, drop-at}
 use lib.Dec.{leb}
 use borrow.Author.Tests.{leb-true, le-leb}
-use Rattle.sets.specs.Sets.{In, Sub, full}
+use Rattle.sets.specs.Sets.{In, Sub}
 use Rattle.sets.proofs.Bools.{clash, to-false}
 use Rattle.records.specs.declared.record.Record.{Record}
 use Rattle.records.specs.Limits.{maxContacts, maxLogBytes, withinLimits, wordsFor}
@@ -34,6 +34,7 @@ use Rattle.log.specs.Buffers.{Delivered}
 use Rattle.thresholds.specs.declared.Thresholds.{Thresholds}
 use Rattle.thresholds.specs.Ranges.{inRange}
 use Rattle.spans.specs.Spans.{SpanOfDay}
+use Rattle.spans.specs.Reviews.{Review}
 use Rattle.spans.specs.SpanCores.{SpanCore}
 use Rattle.spans.specs.Encoding.{reportBytes}
 use Rattle.groups.specs.GroupReports.{ReportsGroups}
@@ -249,22 +250,22 @@ module _ (logs lengths : List ℕ) (q n T : ℕ) (words work : List ℕ) (e : jo
   joined-passes = let d = joined-lent-day in check-day n T _ (d .limits) (d .enough) (d .day)
 
   -- and what is promised of days holds of it: lent enough, core numbers, the report and the plan succeed,
-  pub joined-numbers : (call : ℕ → ℕ → List ℕ → ℕ → ℕ → List ℕ → Delivered) → GivesCoreNumbers call → (first last : ℕ) (buffer : List ℕ) → first ≤ last → last < T → n ≤ length buffer
-      → call n T (joinOf logs lengths q words work .words) first last buffer .answer ≡ success n
-  joined-numbers call p first last buffer r i h =
+  pub joined-numbers : (call : ℕ → ℕ → List ℕ → ℕ → ℕ → ℕ → List ℕ → Delivered) → GivesCoreNumbers call → (base first last : ℕ) (buffer : List ℕ) → Review n base → first ≤ last → last < T → n ≤ length buffer
+      → call n T (joinOf logs lengths q words work .words) base first last buffer .answer ≡ success n
+  joined-numbers call p base first last buffer v r i h =
       let d : SpanOfDay n T (joinOf logs lengths q words work .words) first last = record { lent = joined-lent-day; rising = r; inside = i } in
-      let x = p .exist n T _ first last d in
-      ap (λ (y : Delivered). y .answer) (p .succeeds n T _ first last buffer (x .0) d (x .1) h)
+      let x = p .exist n T _ base first last d v in
+      ap (λ (y : Delivered). y .answer) (p .succeeds n T _ base first last buffer (x .0) d v (x .1) h)
 
-  pub joined-report : (call : ℕ → ℕ → List ℕ → Thresholds → List ℕ → Delivered) (groups : ℕ → ℕ → List ℕ → Thresholds → List SpanCore) → ReportsGroups call groups
-      → (least : Thresholds) (buffer : List ℕ) → inRange least ≡ true → let bytes = reportBytes n T (groups n T (joinOf logs lengths q words work .words) least) in
-      length bytes ≤ length buffer → call n T (joinOf logs lengths q words work .words) least buffer .answer ≡ success (length bytes)
-  joined-report call groups p least buffer r h =
-      ap (λ (y : Delivered). y .answer) (p .succeeds n T _ least buffer (record { lent = joined-lent-day; range = r }) h)
+  pub joined-report : (call : ℕ → ℕ → List ℕ → ℕ → Thresholds → List ℕ → Delivered) (groups : ℕ → ℕ → List ℕ → ℕ → Thresholds → List SpanCore) → ReportsGroups call groups
+      → (base : ℕ) (least : Thresholds) (buffer : List ℕ) → Review n base → inRange least ≡ true → let bytes = reportBytes n T (groups n T (joinOf logs lengths q words work .words) base least) in
+      length bytes ≤ length buffer → call n T (joinOf logs lengths q words work .words) base least buffer .answer ≡ success (length bytes)
+  joined-report call groups p base least buffer v r h =
+      ap (λ (y : Delivered). y .answer) (p .succeeds n T _ base least buffer (record { lent = joined-lent-day; reviewed = v; range = r }) h)
 
-  pub joined-plan : (call : ℕ → ℕ → List ℕ → ℕ → ℕ → List ℕ → Delivered) → PlansShifts call → (query h : ℕ) (buffer : List ℕ) → Sub query (full n) → 1 ≤ h → h ≤ T → 19 + 13 * h ≤ length buffer
-      → call n T (joinOf logs lengths q words work .words) query h buffer .answer ≡ success (19 + 13 * h)
-  joined-plan call p query h buffer s a b l = plan-succeeds call p buffer (record { lent = joined-lent-day; named = s; some = a; enough = b }) l
+  pub joined-plan : (call : ℕ → ℕ → List ℕ → ℕ → ℕ → ℕ → List ℕ → Delivered) → PlansShifts call → (base query h : ℕ) (buffer : List ℕ) → Review n base → Sub query base → 1 ≤ h → h ≤ T → 19 + 13 * h ≤ length buffer
+      → call n T (joinOf logs lengths q words work .words) base query h buffer .answer ≡ success (19 + 13 * h)
+  joined-plan call p base query h buffer v s a b l = plan-succeeds call p buffer (record { lent = joined-lent-day; reviewed = v; named = s; some = a; enough = b }) l
 
   -- and writing succeeds, or is refused by 15.
   pub joined-write : (read : List ℕ → List ℕ → Read) (write : ℕ → ℕ → List ℕ → List ℕ → Delivered) → Writes read write → (buffer : List ℕ) → maxLogBytes ≤ length buffer

@@ -11,9 +11,12 @@ pub mod SmallDays
 pub mod ReadSubstitutes
 pub mod TidySubstitutes
 pub mod WriteSubstitutes
--- core numbers; and words after the day, for the report and the plan
+-- core numbers
 pub mod NumberTheorems
+-- days with the same cores; words after the day; and a review held against the calls without one
+pub mod SameCores
 pub mod WordsAfter
+pub mod ReviewTheorems
 -- what the promise of the plan comes to
 pub mod PlanPromise
 -- substitutes for core numbers, the report and the plan
@@ -22,6 +25,7 @@ pub mod ReportSubstitutes
 pub mod ThresholdSubstitutes
 pub mod PlanSubstitutes
 pub mod PlanOrders
+pub mod ReviewSubstitutes
 -- the number that no refusal has
 pub mod UnusedNumber
 -- joining: laws of quorums, its promise proved, what the promise comes to, and substitutes

@@ -7,7 +7,6 @@ use Prim.Native.Nat.{ℕ, _+_, _*_, _≤_}
 use native.Mathlib.Decide.{decLt}
 use native.Mathlib.Omega.{arith}
 use lib.ListN.{length, take}
-use Rattle.sets.specs.Sets.{full}
 use Rattle.records.specs.Outcomes.{success}
 use Rattle.records.proofs.Outcomes.{success-same}
 use Rattle.log.specs.Buffers.{Delivered, deliver}
@@ -42,36 +41,36 @@ stated-length : {n T : ℕ} {ws : List ℕ} {base query h : ℕ} (ps : List Span
 stated-length {n} {T} {query = query} {h} ps s = plan-length n T h query ps (runs-length (s .cutting .runs))
 
 -- A call that keeps the promise:
-module _ (call : ℕ → ℕ → List ℕ → ℕ → ℕ → List ℕ → Delivered) (p : PlansShifts call) {n T : ℕ} {ws : List ℕ} {query h : ℕ} (buffer : List ℕ) (a : PlanAsked n T ws query h) where
+module _ (call : ℕ → ℕ → List ℕ → ℕ → ℕ → ℕ → List ℕ → Delivered) (p : PlansShifts call) {n T : ℕ} {ws : List ℕ} {base query h : ℕ} (buffer : List ℕ) (a : PlanAsked n T ws base query h) where
   abbrev pub bytes : List ℕ
-  bytes = planBytes n T h query (p n T ws query h buffer a .parts)
+  bytes = planBytes n T h query (p n T ws base query h buffer a .parts)
 
   -- it delivers the bytes of parts of which the plan statement holds, and which they say;
-  delivers : call n T ws query h buffer ≡ deliver (success bytes) buffer
+  delivers : call n T ws base query h buffer ≡ deliver (success bytes) buffer
   delivers =
-      let s = p n T ws query h buffer a in
+      let s = p n T ws base query h buffer a in
       by-cases (decLt (length buffer) (length bytes)) (λ l. s .measures l ∙ sym (deliver-short bytes buffer l)) (λ l. s .succeeds (omega arith) ∙ sym (deliver-fits bytes buffer (omega arith)))
 
-  pub plan-bytes : (size : ℕ) → call n T ws query h buffer .answer ≡ success size → take size (call n T ws query h buffer .buffer) ≡ bytes
+  pub plan-bytes : (size : ℕ) → call n T ws base query h buffer .answer ≡ success size → take size (call n T ws base query h buffer .buffer) ≡ bytes
   plan-bytes size g =
       let d = deliver-success (success bytes) buffer size (sym (ap (λ (x : Delivered). x .answer) delivers) ∙ g) in
       ap (λ (x : Delivered). take size (x .buffer)) delivers ∙ d .2 ∙ sym (success-same (d .1))
 
-  pub plan-kept : (size : ℕ) → call n T ws query h buffer .answer ≡ success size → PlanStatement n T ws (full n) query h (planRecords (take size (call n T ws query h buffer .buffer)))
-  plan-kept size g = let s = p n T ws query h buffer a in rw (plan-bytes size g, s .said) (s .stated)
+  pub plan-kept : (size : ℕ) → call n T ws base query h buffer .answer ≡ success size → PlanStatement n T ws base query h (planRecords (take size (call n T ws base query h buffer .buffer)))
+  plan-kept size g = let s = p n T ws base query h buffer a in rw (plan-bytes size g, s .said) (s .stated)
 
   -- it succeeds in a buffer of 19 + 13×h bytes or more, and h fixes the number of bytes;
   pub bytes-length : length bytes ≡ 19 + 13 * h
-  bytes-length = let s = p n T ws query h buffer a in stated-length (s .parts) (s .stated)
+  bytes-length = let s = p n T ws base query h buffer a in stated-length (s .parts) (s .stated)
 
-  pub plan-succeeds : 19 + 13 * h ≤ length buffer → call n T ws query h buffer .answer ≡ success (19 + 13 * h)
-  plan-succeeds l = ap (λ (x : Delivered). x .answer) (p n T ws query h buffer a .succeeds (omega (arith, bytes-length))) ∙ ap success bytes-length
+  pub plan-succeeds : 19 + 13 * h ≤ length buffer → call n T ws base query h buffer .answer ≡ success (19 + 13 * h)
+  plan-succeeds l = ap (λ (x : Delivered). x .answer) (p n T ws base query h buffer a .succeeds (omega (arith, bytes-length))) ∙ ap success bytes-length
 
   -- and the ends that its bytes say are the first of the best cuttings, by the scores
-  pub ends-found : (size : ℕ) → call n T ws query h buffer .answer ≡ success size
-      → partEnds (planRecords (take size (call n T ws query h buffer .buffer))) ≡ bestEnds (scoreOn n ws query) T h
+  pub ends-found : (size : ℕ) → call n T ws base query h buffer .answer ≡ success size
+      → partEnds (planRecords (take size (call n T ws base query h buffer .buffer))) ≡ bestEnds (scoreOn n ws base query) T h
   ends-found size g = ends-same _ _ (plan-kept size g) (parts-stated a) ∙ plan-ends a
 
-  pub ends-first : (size : ℕ) → call n T ws query h buffer .answer ≡ success size
-      → IsFirstBest (scoreOn n ws query) T h (partEnds (planRecords (take size (call n T ws query h buffer .buffer))))
-  ends-first size g = rw (ends-found size g) (best-ends (scoreOn n ws query) T h (a .some) (a .enough))
+  pub ends-first : (size : ℕ) → call n T ws base query h buffer .answer ≡ success size
+      → IsFirstBest (scoreOn n ws base query) T h (partEnds (planRecords (take size (call n T ws base query h buffer .buffer))))
+  ends-first size g = rw (ends-found size g) (best-ends (scoreOn n ws base query) T h (a .some) (a .enough))

@@ -8,7 +8,7 @@ use lib.ListN.{length, getD, take, drop, replicate, length-replicate}
 use Rattle.sets.specs.Ascii.{ascii}
 use Rattle.sets.specs.Sets.{In, full, size}
 use Rattle.sets.specs.Bytes.{littleEndian}
-use Rattle.sets.proofs.Sets.{none-sub, is-sub-of}
+use Rattle.sets.proofs.Sets.{none-sub, sub-refl, is-sub-of}
 use Rattle.records.specs.declared.record.Record.the-variants.{End}
 use Rattle.records.specs.Records.{encode}
 use Rattle.records.specs.Outcomes.{success}
@@ -22,6 +22,7 @@ use Rattle.spans.specs.Plans.{scoreOn, partsOf}
 use Rattle.spans.specs.Encoding.{encodeCores, planBytes, planRecords}
 use Rattle.spans.specs.PlanStatement.{Runs, none, run, sumOfOrders, PlanStatement, PlanAsked}
 use Rattle.spans.proofs.Decoding.{last-four}
+use Rattle.spans.proofs.Reviews.{all-reviewed}
 use Rattle.spans.proofs.PlanParts.{order-le, parts-stated}
 use Rattle.groups.specs.ShiftPlans.{PlansShifts}
 use Rattle.promises.specs.D1.{d1Words}
@@ -40,28 +41,28 @@ turning-span : (first last : ℕ) → first ≤ last → last < 4 → SpanOfDay 
 turning-span first last m w = record { lent = turning-lent; rising = m; inside = w }
 
 -- around badge 0 it is cut into two parts by their last ticks 1 and 3, with the sum 2
-turning-asked : PlanAsked 3 4 turning 1 2
+turning-asked : PlanAsked 3 4 turning (full 3) 1 2
 unfolding computing
-turning-asked = record { lent = turning-lent; named = is-sub-of 1 (full 3) refl; some = omega arith; enough = omega arith }
+turning-asked = record { lent = turning-lent; reviewed = all-reviewed turning-lent; named = is-sub-of 1 (full 3) refl; some = omega arith; enough = omega arith }
 
-turning-sum : sumOfOrders (partsOf 3 4 turning 1 2) ≡ 2
+turning-sum : sumOfOrders (partsOf 3 4 turning (full 3) 1 2) ≡ 2
 unfolding computing
 turning-sum = refl
 
 -- the scores of the runs 0 to 0 and 1 to 3
-turning-first : scoreOn 3 turning 1 0 0 ≡ 1
+turning-first : scoreOn 3 turning (full 3) 1 0 0 ≡ 1
 unfolding computing
 turning-first = refl
 
-turning-rest : scoreOn 3 turning 1 1 3 ≡ 0
+turning-rest : scoreOn 3 turning (full 3) 1 1 3 ≡ 0
 unfolding computing
 turning-rest = refl
 
 -- a part of it is of an order that is no more than its run's score
 turning-order : (ps : List SpanCore) → PlanStatement 3 4 turning (full 3) 1 2 ps → (p : SpanCore) → Mem p ps → (first last : ℕ) → p .first ≡ first → p .last ≡ last → first ≤ last → last < 4
-    → p .order ≤ scoreOn 3 turning 1 first last
+    → p .order ≤ scoreOn 3 turning (full 3) 1 first last
 turning-order ps s p i first last e f m w =
-    rw (e, f) at (order-le 1 (turning-span (p .first) (p .last) (omega arith) (omega arith)) (s .cutting .within p i) (s .cutting .holds p i) (s .cutting .least p i))
+    rw (e, f) at (order-le 1 (turning-span (p .first) (p .last) (omega arith) (omega arith)) (sub-refl _) (s .cutting .within p i) (s .cutting .holds p i) (s .cutting .least p i))
 
 -- A careless cut: after tick 0, which has the best score, and then the rest in one part, with whatever scores and members.
 pub careless-cut : (p q : SpanCore) → p .first ≡ 0 → p .last ≡ 0 → q .first ≡ 1 → q .last ≡ 3 → PlanStatement 3 4 turning (full 3) 1 2 (p ∷ q ∷ []) → ⊥
@@ -101,14 +102,14 @@ careless-stated ps s e =
     careless-cut (x .0) (y .0) (x .3) g (omega (arith, y .3)) (omega (arith, z .0)) (rw f at s)
 
 -- A call that makes every first tick a part of its own, where there are more parts than one, and cuts the rest as it likes.
-pub careless-call : (call : ℕ → ℕ → List ℕ → ℕ → ℕ → List ℕ → Delivered)
-    → ((n T : ℕ) (ws : List ℕ) (query h : ℕ) (buffer : List ℕ) (size : ℕ) → PlanAsked n T ws query h → 2 ≤ h → call n T ws query h buffer .answer ≡ success size
-    → firstEnd (planRecords (take size (call n T ws query h buffer .buffer))) ≡ 0)
+pub careless-call : (call : ℕ → ℕ → List ℕ → ℕ → ℕ → ℕ → List ℕ → Delivered)
+    → ((n T : ℕ) (ws : List ℕ) (base query h : ℕ) (buffer : List ℕ) (size : ℕ) → PlanAsked n T ws base query h → 2 ≤ h → call n T ws base query h buffer .answer ≡ success size
+    → firstEnd (planRecords (take size (call n T ws base query h buffer .buffer))) ≡ 0)
     → PlansShifts call → ⊥
 careless-call call e p =
     let lent : List ℕ = replicate 45 0 in
     let k = plan-succeeds call p lent turning-asked (omega (arith, length-replicate {A = ℕ} 45 0)) in
-    careless-stated _ (plan-kept call p lent turning-asked _ k) (e 3 4 turning 1 2 lent _ turning-asked (omega arith) k)
+    careless-stated _ (plan-kept call p lent turning-asked _ k) (e 3 4 turning (full 3) 1 2 lent _ turning-asked (omega arith) k)
 
 -- Members that are not the core: D1 around badge 2 in one part, of score 1. No set with a member that has no fellow member can be shown,
 pub members-not-the-core : (s u : ℕ) → In s u → size (fellows 4 d1Words 0 2 s u) ≡ 0
@@ -132,14 +133,14 @@ plan-four n T h query ps =
     ap (λ (b : List ℕ). drop (length b - 4) b) (sym (append-assoc head (encodeCores (ascii "PT") ps) (encode (End h)))) ∙ last-four (head ++ encodeCores (ascii "PT") ps) h
 
 -- An ED count that is the same for all plans, whatever else is written.
-module _ (count : ℕ) (call : ℕ → ℕ → List ℕ → ℕ → ℕ → List ℕ → Delivered)
-    (written : (n T : ℕ) (ws : List ℕ) (query h : ℕ) (buffer : List ℕ) (size : ℕ) → PlanAsked n T ws query h → call n T ws query h buffer .answer ≡ success size
-    → drop (size - 4) (take size (call n T ws query h buffer .buffer)) ≡ littleEndian 4 count)
+module _ (count : ℕ) (call : ℕ → ℕ → List ℕ → ℕ → ℕ → ℕ → List ℕ → Delivered)
+    (written : (n T : ℕ) (ws : List ℕ) (base query h : ℕ) (buffer : List ℕ) (size : ℕ) → PlanAsked n T ws base query h → call n T ws base query h buffer .answer ≡ success size
+    → drop (size - 4) (take size (call n T ws base query h buffer .buffer)) ≡ littleEndian 4 count)
     (p : PlansShifts call) where
   -- it is the number of parts
   right-count : (h : ℕ) → 1 ≤ h → h ≤ 3 → littleEndian 4 count ≡ littleEndian 4 h
   right-count h a b =
-      sym (written 4 3 d1Words 0 h lent (19 + 13 * h) asked succeeds)
+      sym (written 4 3 d1Words (full 4) 0 h lent (19 + 13 * h) asked succeeds)
       ∙ ap (drop (19 + 13 * h - 4)) (plan-bytes call p lent asked (19 + 13 * h) succeeds)
       ∙ ap (λ (k : ℕ). drop (k - 4) (bytes call p lent asked)) (sym (bytes-length call p lent asked))
       ∙ plan-four 4 3 h 0 _
@@ -147,10 +148,10 @@ module _ (count : ℕ) (call : ℕ → ℕ → List ℕ → ℕ → ℕ → List
       lent : List ℕ
       lent = replicate 58 0
 
-      asked : PlanAsked 4 3 d1Words 0 h
-      asked = record { lent = d1-lent; named = none-sub (full 4); some = a; enough = b }
+      asked : PlanAsked 4 3 d1Words (full 4) 0 h
+      asked = record { lent = d1-lent; reviewed = all-reviewed d1-lent; named = none-sub (full 4); some = a; enough = b }
 
-      succeeds : call 4 3 d1Words 0 h lent .answer ≡ success (19 + 13 * h)
+      succeeds : call 4 3 d1Words (full 4) 0 h lent .answer ≡ success (19 + 13 * h)
       succeeds = plan-succeeds call p lent asked (omega (arith, length-replicate {A = ℕ} 58 0))
 
   pub plan-count-fixed : ⊥

@@ -9,9 +9,9 @@ use native.Mathlib.Omega.{arith}
 use lib.ListN.{length, replicate, take, drop, length-append, length-replicate}
 use lib.Seq.{take-at}
 use Rattle.sets.specs.Ascii.{ascii}
-use Rattle.sets.specs.Sets.{full}
+use Rattle.sets.specs.Sets.{Sub, full}
 use Rattle.sets.specs.Bytes.{littleEndian, fromLittleEndian}
-use Rattle.sets.proofs.Sets.{sub-antisym}
+use Rattle.sets.proofs.Sets.{sub-refl, sub-antisym}
 use Rattle.records.specs.declared.record.Record.the-variants.{End}
 use Rattle.records.specs.Records.{encode}
 use Rattle.records.specs.Outcomes.{refused, success}
@@ -29,6 +29,7 @@ use Rattle.spans.specs.Encoding.{encodeCores, reportBytes, decodeCores, records
 use Rattle.spans.specs.GroupStatement.{Has, GroupStatement, ReportAsked}
 use Rattle.spans.proofs.Decoding.{last-four}
 use Rattle.spans.proofs.MostGroups.{report-length}
+use Rattle.spans.proofs.Reviews.{all-reviewed}
 use Rattle.spans.proofs.GroupLists.{groups-stated, kept-plain}
 use Rattle.groups.specs.GroupReports.{ReportsGroups}
 use Rattle.promises.specs.D1.{d1Words}
@@ -59,14 +60,14 @@ stated-same {n} {T} {ws} {base} {least} xs ys x y c i =
         rw (same-core c d h (sub-antisym _ _ a b)) at j
 
 -- A group that is kept of the day's, and is left out.
-pub group-left-out : {n T : ℕ} {ws : List ℕ} {least : Thresholds} (xs : List SpanCore) → GroupStatement n T ws (full n) least xs → LentDay n T ws
-    → (c : SpanCore) → Mem c (kept least (groupsOf n T ws)) → (Mem c xs → ⊥) → ⊥
-group-left-out {n} {T} {ws} {least} xs s d c i h = h (stated-same (kept least (groupsOf n T ws)) xs (groups-stated n T ws least d) s c i)
+pub group-left-out : {n T : ℕ} {ws : List ℕ} {base : ℕ} {least : Thresholds} (xs : List SpanCore) → GroupStatement n T ws base least xs → LentDay n T ws → Sub base (full n)
+    → (c : SpanCore) → Mem c (kept least (groupsOf n T ws base)) → (Mem c xs → ⊥) → ⊥
+group-left-out {n} {T} {ws} {base} {least} xs s d r c i h = h (stated-same (kept least (groupsOf n T ws base)) xs (groups-stated n T ws base least d r) s c i)
 
 -- A record that is none of the groups that are kept of the day's.
-pub not-maximal : {n T : ℕ} {ws : List ℕ} {least : Thresholds} (xs : List SpanCore) → GroupStatement n T ws (full n) least xs → LentDay n T ws
-    → (c : SpanCore) → Mem c xs → (Mem c (kept least (groupsOf n T ws)) → ⊥) → ⊥
-not-maximal {n} {T} {ws} {least} xs s d c i h = h (stated-same xs (kept least (groupsOf n T ws)) s (groups-stated n T ws least d) c i)
+pub not-maximal : {n T : ℕ} {ws : List ℕ} {base : ℕ} {least : Thresholds} (xs : List SpanCore) → GroupStatement n T ws base least xs → LentDay n T ws → Sub base (full n)
+    → (c : SpanCore) → Mem c xs → (Mem c (kept least (groupsOf n T ws base)) → ⊥) → ⊥
+not-maximal {n} {T} {ws} {base} {least} xs s d r c i h = h (stated-same xs (kept least (groupsOf n T ws base)) s (groups-stated n T ws base least d r) c i)
 
 -- A record that is shown twice.
 pub group-twice : {n T : ℕ} {ws : List ℕ} {base : ℕ} {least : Thresholds} (xs ys zs : List SpanCore) (c : SpanCore) → GroupStatement n T ws base least (xs ++ (c ∷ (ys ++ (c ∷ zs)))) → ⊥
@@ -77,15 +78,15 @@ pub order-zero : {n T : ℕ} {ws : List ℕ} {base : ℕ} {least : Thresholds} (
 order-zero xs s c i e = omega (arith, s .order c i)
 
 -- the plain report keeps both of D1's groups
-d1-kept : kept plain (groupsOf 4 3 d1Words) ≡ triple ∷ couple ∷ []
-d1-kept = kept-plain d1-lent ∙ d1-groups
+d1-kept : kept plain (groupsOf 4 3 d1Words (full 4)) ≡ triple ∷ couple ∷ []
+d1-kept = kept-plain d1-lent (sub-refl _) ∙ d1-groups
 
 -- a list of which D1's statement holds has the first,
-d1-triple : (xs : List SpanCore) → GroupStatement 4 3 d1Words (full 4) plain xs → Mem triple xs
-d1-triple xs s = stated-same (kept plain (groupsOf 4 3 d1Words)) xs (groups-stated 4 3 d1Words plain d1-lent) s triple (rw d1-kept (List·Memᴰ·head refl))
+pub d1-triple : (xs : List SpanCore) → GroupStatement 4 3 d1Words (full 4) plain xs → Mem triple xs
+d1-triple xs s = stated-same (kept plain (groupsOf 4 3 d1Words (full 4))) xs (groups-stated 4 3 d1Words (full 4) plain d1-lent (sub-refl _)) s triple (rw d1-kept (List·Memᴰ·head refl))
 
 -- and no group of D1 has other members than these two
-d1-members : (c : SpanCore) → Mem c (kept plain (groupsOf 4 3 d1Words)) → (c .members ≡ 7) ⊎ (c .members ≡ 12)
+d1-members : (c : SpanCore) → Mem c (kept plain (groupsOf 4 3 d1Words (full 4))) → (c .members ≡ 7) ⊎ (c .members ≡ 12)
 d1-members c i = ⊎-elim (λ e. inl (ap (λ (x : SpanCore). x .members) e)) (λ j. inr (ap (λ (x : SpanCore). x .members) (List·Memᴰ·eq-of-singleton j)))
     (List·Memᴰ·cases-cons (rw d1-kept at i))
 
@@ -95,23 +96,23 @@ longer [] i = absurd (List·Memᴰ·not-nil i)
 longer (x ∷ xs) i = omega (arith, report-length 4 3 (x ∷ xs))
 
 -- An empty report for all days: whatever records the promise is made of, no call that delivers the report without groups for every day keeps it.
-pub empty-report : (call : ℕ → ℕ → List ℕ → Thresholds → List ℕ → Delivered) (groups : ℕ → ℕ → List ℕ → Thresholds → List SpanCore)
-    → ((n T : ℕ) (ws buffer : List ℕ) → LentDay n T ws → call n T ws plain buffer ≡ deliver (success (reportBytes n T [])) buffer) → ReportsGroups call groups → ⊥
+pub empty-report : (call : ℕ → ℕ → List ℕ → ℕ → Thresholds → List ℕ → Delivered) (groups : ℕ → ℕ → List ℕ → ℕ → Thresholds → List SpanCore)
+    → ((n T : ℕ) (ws buffer : List ℕ) → LentDay n T ws → call n T ws (full n) plain buffer ≡ deliver (success (reportBytes n T [])) buffer) → ReportsGroups call groups → ⊥
 empty-report call groups e p =
-    let bytes = reportBytes 4 3 (groups 4 3 d1Words plain) in
-    let l = longer _ (d1-triple _ (p .stated 4 3 d1Words plain d1-plain)) in
+    let bytes = reportBytes 4 3 (groups 4 3 d1Words (full 4) plain) in
+    let l = longer _ (d1-triple _ (p .stated 4 3 d1Words (full 4) plain d1-plain)) in
     let none : length (reportBytes 4 3 []) ≡ 10 = report-length 4 3 [] in
-    let f = sym (e 4 3 d1Words bytes d1-lent ∙ deliver-fits (reportBytes 4 3 []) bytes (omega (arith, none))) ∙ p .succeeds 4 3 d1Words plain bytes d1-plain (le-refl _) in
+    let f = sym (e 4 3 d1Words bytes d1-lent ∙ deliver-fits (reportBytes 4 3 []) bytes (omega (arith, none))) ∙ p .succeeds 4 3 d1Words (full 4) plain bytes d1-plain (le-refl _) in
     omega (arith, none, success-same (ap (λ (x : Delivered). x .answer) f))
 
 -- D1's report without its second group
 pub second-left-out : GroupStatement 4 3 d1Words (full 4) plain (triple ∷ []) → ⊥
-second-left-out s = group-left-out (triple ∷ []) s d1-lent couple (rw d1-kept (List·Memᴰ·tail (List·Memᴰ·head refl)))
+second-left-out s = group-left-out (triple ∷ []) s d1-lent (sub-refl _) couple (rw d1-kept (List·Memᴰ·tail (List·Memᴰ·head refl)))
     (λ i. let z : _≡_ {A = ℕ} 12 7 = ap (λ (x : SpanCore). x .members) (List·Memᴰ·eq-of-singleton i) in omega arith)
 
 -- D1's report with the core of order 1 on 0 to 1, which is not maximal, among its records: wherever it stands, and so added once, and twice
 pub core-not-maximal : (xs : List SpanCore) → GroupStatement 4 3 d1Words (full 4) plain xs → Mem allFour xs → ⊥
-core-not-maximal xs s i = not-maximal xs s d1-lent allFour i (λ j. ⊎-elim (λ e. omega arith) (λ e. omega arith) (d1-members allFour j))
+core-not-maximal xs s i = not-maximal xs s d1-lent (sub-refl _) allFour i (λ j. ⊎-elim (λ e. omega arith) (λ e. omega arith) (d1-members allFour j))
 
 pub added-once : GroupStatement 4 3 d1Words (full 4) plain (triple ∷ allFour ∷ couple ∷ []) → ⊥
 added-once s = core-not-maximal _ s (List·Memᴰ·tail (List·Memᴰ·head refl))
@@ -124,7 +125,7 @@ abbrev fewer : SpanCore
 fewer = record { order = 2; first = 0; last = 1; members = 3 }
 
 pub fewer-members : (xs : List SpanCore) → GroupStatement 4 3 d1Words (full 4) plain xs → Mem fewer xs → ⊥
-fewer-members xs s i = not-maximal xs s d1-lent fewer i (λ j. ⊎-elim (λ e. omega arith) (λ e. omega arith) (d1-members fewer j))
+fewer-members xs s i = not-maximal xs s d1-lent (sub-refl _) fewer i (λ j. ⊎-elim (λ e. omega arith) (λ e. omega arith) (d1-members fewer j))
 
 -- a list without members is empty
 pub empty : (xs : List SpanCore) → ((c : SpanCore) → Mem c xs → ⊥) → xs ≡ []
@@ -132,17 +133,17 @@ empty [] h = refl
 empty (c ∷ xs) h = absurd (h c (List·Memᴰ·head refl))
 
 -- a day without contacts has no groups
-none-still : {call : ℕ → ℕ → List ℕ → Thresholds → List ℕ → Delivered} {groups : ℕ → ℕ → List ℕ → Thresholds → List SpanCore} → ReportsGroups call groups → groups 4 3 still plain ≡ []
+none-still : {call : ℕ → ℕ → List ℕ → ℕ → Thresholds → List ℕ → Delivered} {groups : ℕ → ℕ → List ℕ → ℕ → Thresholds → List SpanCore} → ReportsGroups call groups → groups 4 3 still (full 4) plain ≡ []
 unfolding computing
-none-still {call} {groups} p = empty (groups 4 3 still plain) (λ c i. List·Memᴰ·not-nil (stated-same (groups 4 3 still plain) [] (p .stated 4 3 still plain still-plain) (groups-stated 4 3 still plain still-lent) c i))
+none-still {call} {groups} p = empty (groups 4 3 still (full 4) plain) (λ c i. List·Memᴰ·not-nil (stated-same (groups 4 3 still (full 4) plain) [] (p .stated 4 3 still (full 4) plain still-plain) (groups-stated 4 3 still (full 4) plain still-lent (sub-refl _)) c i))
 
 -- 9 before measuring the answer: judged by any bound that n and T decide. A day without groups has a report of 10 bytes, and D1 a longer one.
-pub bound-before-measuring : (call : ℕ → ℕ → List ℕ → Thresholds → List ℕ → Delivered) (groups : ℕ → ℕ → List ℕ → Thresholds → List SpanCore) (bound : ℕ → ℕ → ℕ)
-    → ((n T : ℕ) (ws buffer : List ℕ) → LentDay n T ws → (call n T ws plain buffer .answer ≡ refused 9 0) ↔ (length buffer < bound n T))
+pub bound-before-measuring : (call : ℕ → ℕ → List ℕ → ℕ → Thresholds → List ℕ → Delivered) (groups : ℕ → ℕ → List ℕ → ℕ → Thresholds → List SpanCore) (bound : ℕ → ℕ → ℕ)
+    → ((n T : ℕ) (ws buffer : List ℕ) → LentDay n T ws → (call n T ws (full n) plain buffer .answer ≡ refused 9 0) ↔ (length buffer < bound n T))
     → ReportsGroups call groups → ⊥
 bound-before-measuring call groups bound e p =
-    let low : 10 < bound 4 3 → ⊥ = λ h. refused-success (sym (e 4 3 still ten still-lent .1 (omega (arith, long))) ∙ ap (λ (x : Delivered). x .answer) (p .succeeds 4 3 still plain ten still-plain (omega (arith, short, long)))) in
-    low (omega (arith, e 4 3 d1Words ten d1-lent .0 (ap (λ (x : Delivered). x .answer) (p .measures 4 3 d1Words plain ten d1-plain (omega (arith, longer _ (d1-triple _ (p .stated 4 3 d1Words plain d1-plain)), long)))), long))
+    let low : 10 < bound 4 3 → ⊥ = λ h. refused-success (sym (e 4 3 still ten still-lent .1 (omega (arith, long))) ∙ ap (λ (x : Delivered). x .answer) (p .succeeds 4 3 still (full 4) plain ten still-plain (omega (arith, short, long)))) in
+    low (omega (arith, e 4 3 d1Words ten d1-lent .0 (ap (λ (x : Delivered). x .answer) (p .measures 4 3 d1Words (full 4) plain ten d1-plain (omega (arith, longer _ (d1-triple _ (p .stated 4 3 d1Words (full 4) plain d1-plain)), long)))), long))
   where
     ten : List ℕ
     ten = replicate 10 0
@@ -150,8 +151,8 @@ bound-before-measuring call groups bound e p =
     long : length ten ≡ 10
     long = length-replicate {A = ℕ} 10 0
 
-    short : length (reportBytes 4 3 (groups 4 3 still plain)) ≡ 10
-    short = report-length 4 3 (groups 4 3 still plain) ∙ ap (λ (x : List SpanCore). 10 + 13 * length x) (none-still p)
+    short : length (reportBytes 4 3 (groups 4 3 still (full 4) plain)) ≡ 10
+    short = report-length 4 3 (groups 4 3 still (full 4) plain) ∙ ap (λ (x : List SpanCore). 10 + 13 * length x) (none-still p)
 
 -- where bytes that differ in the ED count alone are equal, the four bytes of the two counts are the same
 same-four : (front : List ℕ) (count other : ℕ) (rest : List ℕ) → (front ++ encode (End count)) ++ rest ≡ (front ++ encode (End other)) ++ rest
@@ -165,28 +166,28 @@ same-four front count other rest e = sym (last-four front count) ∙ ap (λ (b :
     same = sym (take-at _ rest (length (front ++ encode (End other))) long) ∙ ap (take (length (front ++ encode (End other)))) e ∙ take-at _ rest _ refl
 
 -- An ED count that is the same for all days, after whatever groups the promise is kept with.
-module _ (count : ℕ) (groups : ℕ → ℕ → List ℕ → Thresholds → List SpanCore) (call : ℕ → ℕ → List ℕ → Thresholds → List ℕ → Delivered)
-    (written : (n T : ℕ) (ws buffer : List ℕ) → LentDay n T ws → length (reportBytes n T (groups n T ws plain)) ≤ length buffer
-    → call n T ws plain buffer .buffer
-    ≡ ((ascii "RH" ++ (n ∷ T ∷ [])) ++ (encodeCores (ascii "GR") (groups n T ws plain) ++ encode (End count))) ++ drop (length (reportBytes n T (groups n T ws plain))) buffer)
+module _ (count : ℕ) (groups : ℕ → ℕ → List ℕ → ℕ → Thresholds → List SpanCore) (call : ℕ → ℕ → List ℕ → ℕ → Thresholds → List ℕ → Delivered)
+    (written : (n T : ℕ) (ws buffer : List ℕ) → LentDay n T ws → length (reportBytes n T (groups n T ws (full n) plain)) ≤ length buffer
+    → call n T ws (full n) plain buffer .buffer
+    ≡ ((ascii "RH" ++ (n ∷ T ∷ [])) ++ (encodeCores (ascii "GR") (groups n T ws (full n) plain) ++ encode (End count))) ++ drop (length (reportBytes n T (groups n T ws (full n) plain))) buffer)
     (p : ReportsGroups call groups) where
-  asked : {n T : ℕ} {ws : List ℕ} → LentDay n T ws → ReportAsked n T ws plain
+  asked : {n T : ℕ} {ws : List ℕ} → LentDay n T ws → ReportAsked n T ws (full n) plain
   unfolding computing
-  asked d = record { lent = d; range = refl }
+  asked d = record { lent = d; reviewed = all-reviewed d; range = refl }
 
   -- it is that of the day's groups
-  right-count : {n T : ℕ} {ws : List ℕ} → LentDay n T ws → littleEndian 4 count ≡ littleEndian 4 (length (groups n T ws plain))
+  right-count : {n T : ℕ} {ws : List ℕ} → LentDay n T ws → littleEndian 4 count ≡ littleEndian 4 (length (groups n T ws (full n) plain))
   unfolding reportBytes
   right-count {n} {T} {ws} d =
-      let bytes = reportBytes n T (groups n T ws plain) in
-      same-four ((ascii "RH" ++ (n ∷ T ∷ [])) ++ encodeCores (ascii "GR") (groups n T ws plain)) count (length (groups n T ws plain)) (drop (length bytes) bytes)
-      (sym (written n T ws bytes d (le-refl _)) ∙ ap (λ (x : Delivered). x .buffer) (p .succeeds n T ws plain bytes (asked d) (le-refl _)))
+      let bytes = reportBytes n T (groups n T ws (full n) plain) in
+      same-four ((ascii "RH" ++ (n ∷ T ∷ [])) ++ encodeCores (ascii "GR") (groups n T ws (full n) plain)) count (length (groups n T ws (full n) plain)) (drop (length bytes) bytes)
+      (sym (written n T ws bytes d (le-refl _)) ∙ ap (λ (x : Delivered). x .buffer) (p .succeeds n T ws (full n) plain bytes (asked d) (le-refl _)))
 
   pub end-count-fixed : ⊥
   unfolding reportBytes recordsAfter decodeCores littleEndian fromLittleEndian
   end-count-fixed =
-      let xs = groups 4 3 d1Words plain in
+      let xs = groups 4 3 d1Words (full 4) plain in
       let a : littleEndian 4 (length xs) ≡ littleEndian 4 0 = sym (right-count d1-lent) ∙ right-count still-lent ∙ ap (λ (x : List SpanCore). littleEndian 4 (length x)) (none-still p) in
       let b : drop (length (reportBytes 4 3 xs) - 4) (reportBytes 4 3 xs) ≡ littleEndian 4 0 = last-four ((ascii "RH" ++ (4 ∷ 3 ∷ [])) ++ encodeCores (ascii "GR") xs) (length xs) ∙ a in
-      let c : xs ≡ [] = sym (p .said 4 3 d1Words plain d1-plain) ∙ ap (λ (x : List ℕ). decodeCores (fromLittleEndian x) (drop 4 (reportBytes 4 3 xs))) b in
-      List·Memᴰ·not-nil (rw c at (d1-triple xs (p .stated 4 3 d1Words plain d1-plain)))
+      let c : xs ≡ [] = sym (p .said 4 3 d1Words (full 4) plain d1-plain) ∙ ap (λ (x : List ℕ). decodeCores (fromLittleEndian x) (drop 4 (reportBytes 4 3 xs))) b in
+      List·Memᴰ·not-nil (rw c at (d1-triple xs (p .stated 4 3 d1Words (full 4) plain d1-plain)))

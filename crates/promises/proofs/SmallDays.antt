@@ -24,10 +24,12 @@ use Rattle.spans.specs.Reports.{asLarge, same, isMaximal, isGroup, groupsOn, gr
 use Rattle.thresholds.specs.Ranges.{plain, inRange, areEnough}
 use Rattle.spans.specs.KeptGroups.{meets, kept}
 use Rattle.spans.specs.GroupStatement.{ReportAsked}
+use Rattle.spans.specs.Reviews.{isReview}
+use Rattle.spans.proofs.Reviews.{all-reviewed}
 use Rattle.spans.specs.Plans.{scoreOn, partOn, partsFrom, partsOf}
 use Rattle.spans.specs.PlanStatement.{sumOfOrders}
 use Rattle.promises.specs.D1.{badges, d1Words}
-use Rattle.groups.specs.Calls.{coreNumberBytes, spanJudged, coreNumbersOf}
+use Rattle.groups.specs.Calls.{reviewOf, coreNumberBytes, spanJudged, coreNumbersOf}
 
 -- as many words as D1 has, without contacts
 unfoldable pub still : List ℕ
@@ -35,7 +37,7 @@ still = replicate 12 0
 
 -- all that is computed with
 unfoldable pub computing : ℕ
-unfolding badges d1Words still _and_ _or_ isnt all bit intersection setOf full filterIn filter sizeIn size tabulate withinLimits refuseIf andThen neighbours adjacent isTick isDay deliver checkOf degree strip strips core largest coreNumber isSpan throughout spanNeighbours coreNumberBytes spanJudged coreNumbersOf concatBelow keepIf coreOn hasCore asLarge same isMaximal isGroup groupsOn groupsFrom groupsOf inRange areEnough meets kept isSub contains score scoreOn partOn partsFrom partsOf fellows firstGreatest sumWith bestSum endAfter endsFrom bestEnds sumOfOrders
+unfolding badges d1Words still _and_ _or_ isnt all bit intersection setOf full filterIn filter sizeIn size tabulate withinLimits refuseIf andThen neighbours adjacent isTick isDay deliver checkOf degree strip strips core largest coreNumber isSpan throughout spanNeighbours coreNumberBytes spanJudged reviewOf isReview coreNumbersOf concatBelow keepIf coreOn hasCore asLarge same isMaximal isGroup groupsOn groupsFrom groupsOf inRange areEnough meets kept isSub contains score scoreOn partOn partsFrom partsOf fellows firstGreatest sumWith bestSum endAfter endsFrom bestEnds sumOfOrders
 computing = 0
 
 -- both are lent days
@@ -47,23 +49,23 @@ pub still-lent : LentDay 4 3 still
 unfolding computing
 still-lent = record { limits = refl; enough = omega arith; day = day-of 4 3 still refl }
 
--- of which the plain report may be asked for
-pub d1-plain : ReportAsked 4 3 d1Words plain
+-- of which the plain report may be asked for, with all badges under review
+pub d1-plain : ReportAsked 4 3 d1Words (full 4) plain
 unfolding computing
-d1-plain = record { lent = d1-lent; range = refl }
+d1-plain = record { lent = d1-lent; reviewed = all-reviewed d1-lent; range = refl }
 
-pub still-plain : ReportAsked 4 3 still plain
+pub still-plain : ReportAsked 4 3 still (full 4) plain
 unfolding computing
-still-plain = record { lent = still-lent; range = refl }
+still-plain = record { lent = still-lent; reviewed = all-reviewed still-lent; range = refl }
 
--- D1's groups
+-- D1's groups, with all badges under review
 abbrev pub triple : SpanCore
 triple = record { order = 2; first = 0; last = 1; members = 7 }
 
 abbrev pub couple : SpanCore
 couple = record { order = 1; first = 0; last = 2; members = 12 }
 
-pub d1-groups : groupsOf 4 3 d1Words ≡ triple ∷ couple ∷ []
+pub d1-groups : groupsOf 4 3 d1Words (full 4) ≡ triple ∷ couple ∷ []
 unfolding computing
 d1-groups = refl
 

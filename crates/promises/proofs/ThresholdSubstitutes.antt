@@ -7,6 +7,7 @@ use lib.Dec.{leb}
 use Rattle.sets.specs.Bools.{_and_, _or_, isnt, all}
 use Rattle.sets.specs.Sets.{full}
 use Rattle.sets.specs.Tables.{concatBelow, keepIf}
+use Rattle.sets.proofs.Sets.{sub-refl}
 use Rattle.sets.proofs.Bools.{clash, same-test}
 use Rattle.log.specs.Buffers.{Delivered}
 use Rattle.thresholds.specs.declared.Thresholds.{Thresholds}
@@ -17,6 +18,7 @@ use Rattle.thresholds.specs.Ranges.{leastOf, inRange}
 use Rattle.spans.specs.KeptGroups.{meets, kept}
 use Rattle.spans.specs.GroupStatement.{GroupStatement}
 use Rattle.spans.proofs.KeptRecords.{in-kept, of-kept}
+use Rattle.spans.proofs.Reviews.{all-reviewed}
 use Rattle.spans.proofs.GroupLists.{groups-stated}
 use Rattle.groups.specs.GroupReports.{ReportsGroups}
 use Rattle.promises.specs.D1.{d1Words}
@@ -25,22 +27,22 @@ use Rattle.promises.proofs.ReportSubstitutes.{stated-same, empty}
 
 -- no call that judges by other thresholds than it is given keeps the promise
 abbrev Refuted : (Thresholds → Thresholds) → Type 0
-Refuted other = (call : ℕ → ℕ → List ℕ → Thresholds → List ℕ → Delivered) → ReportsGroups call (λ n T ws l. kept (other l) (groupsOf n T ws)) → ⊥
+Refuted other = (call : ℕ → ℕ → List ℕ → ℕ → Thresholds → List ℕ → Delivered) → ReportsGroups call (λ n T ws base l. kept (other l) (groupsOf n T ws base)) → ⊥
 
 -- So it is wherever that makes a difference to a group of D1, under any thresholds.
-pub judged-by-others : (other : Thresholds → Thresholds) (given : Thresholds) (c : SpanCore) → inRange given ≡ true → Mem c (groupsOf 4 3 d1Words) → (meets (other given) c ≡ meets given c → ⊥) → Refuted other
+pub judged-by-others : (other : Thresholds → Thresholds) (given : Thresholds) (c : SpanCore) → inRange given ≡ true → Mem c (groupsOf 4 3 d1Words (full 4)) → (meets (other given) c ≡ meets given c → ⊥) → Refuted other
 judged-by-others other given c r i h call p =
-    let groups = groupsOf 4 3 d1Words in
-    let x = p .stated 4 3 d1Words given (record { lent = d1-lent; range = r }) in
-    let y = groups-stated 4 3 d1Words given d1-lent in
+    let groups = groupsOf 4 3 d1Words (full 4) in
+    let x = p .stated 4 3 d1Words (full 4) given (record { lent = d1-lent; reviewed = all-reviewed d1-lent; range = r }) in
+    let y = groups-stated 4 3 d1Words (full 4) given d1-lent (sub-refl _) in
     h (same-test (meets (other given) c) (meets given c)
     (λ e. of-kept given groups (stated-same (kept (other given) groups) (kept given groups) x y c (in-kept (other given) groups i e)) .1)
     (λ e. of-kept (other given) groups (stated-same (kept given groups) (kept (other given) groups) y x c (in-kept given groups i e)) .1))
 
-triple-there : Mem triple (groupsOf 4 3 d1Words)
+triple-there : Mem triple (groupsOf 4 3 d1Words (full 4))
 triple-there = rw d1-groups (List·Memᴰ·head refl)
 
-couple-there : Mem couple (groupsOf 4 3 d1Words)
+couple-there : Mem couple (groupsOf 4 3 d1Words (full 4))
 couple-there = rw d1-groups (List·Memᴰ·tail (List·Memᴰ·head refl))
 
 -- the least length: ignored, one too high, one too low
@@ -85,31 +87,31 @@ members-below = judged-by-others _ (leastOf 1 1 3) couple refl couple-there (λ 
 -- With a least number of 4 members D1 has no record, though order 1 on 0 to 1 has a core of four.
 pub four-none : (xs : List SpanCore) → GroupStatement 4 3 d1Words (full 4) (leastOf 1 1 4) xs → xs ≡ []
 unfolding computing
-four-none xs s = empty xs (λ c i. List·Memᴰ·not-nil (stated-same xs [] s (groups-stated 4 3 d1Words (leastOf 1 1 4) d1-lent) c i))
+four-none xs s = empty xs (λ c i. List·Memᴰ·not-nil (stated-same xs [] s (groups-stated 4 3 d1Words (full 4) (leastOf 1 1 4) d1-lent (sub-refl _)) c i))
 
 -- Domination judged among the records that pass: of the cores that meet the thresholds, those that no other of these equals or exceeds in both order
 -- and span.
-unfoldable pub coreAt : ℕ → List ℕ → ℕ → ℕ → ℕ → SpanCore
-coreAt n ws k first last = record { order = k; first = first; last = last; members = coreOn n ws k first last }
+unfoldable pub coreAt : ℕ → List ℕ → ℕ → ℕ → ℕ → ℕ → SpanCore
+coreAt n ws base k first last = record { order = k; first = first; last = last; members = coreOn n ws base k first last }
 
-unfoldable pub passing : ℕ → List ℕ → Thresholds → ℕ → ℕ → ℕ → Bool
-passing n ws l k first last = leb 1 k and hasCore n ws k first last and meets l (coreAt n ws k first last)
+unfoldable pub passing : ℕ → List ℕ → ℕ → Thresholds → ℕ → ℕ → ℕ → Bool
+passing n ws base l k first last = leb 1 k and hasCore n ws base k first last and meets l (coreAt n ws base k first last)
 
-unfoldable pub undominated : ℕ → ℕ → List ℕ → Thresholds → ℕ → ℕ → ℕ → Bool
-undominated n T ws l k first last = all (suc n) (λ k′. all T (λ first′. all T (λ last′.
-    isnt (isSpan T first′ last′ and asLarge k first last k′ first′ last′ and passing n ws l k′ first′ last′) or same k first last k′ first′ last′)))
+unfoldable pub undominated : ℕ → ℕ → List ℕ → ℕ → Thresholds → ℕ → ℕ → ℕ → Bool
+undominated n T ws base l k first last = all (suc n) (λ k′. all T (λ first′. all T (λ last′.
+    isnt (isSpan T first′ last′ and asLarge k first last k′ first′ last′ and passing n ws base l k′ first′ last′) or same k first last k′ first′ last′)))
 
-unfoldable pub filteredFirst : ℕ → ℕ → List ℕ → Thresholds → List SpanCore
-filteredFirst n T ws l = concatBelow T (λ first. concatBelow T (λ last. concatBelow (suc n) (λ k.
-    keepIf (leb first last and passing n ws l k first last and undominated n T ws l k first last) (coreAt n ws k first last ∷ []))))
+unfoldable pub filteredFirst : ℕ → ℕ → List ℕ → ℕ → Thresholds → List SpanCore
+filteredFirst n T ws base l = concatBelow T (λ first. concatBelow T (λ last. concatBelow (suc n) (λ k.
+    keepIf (leb first last and passing n ws base l k first last and undominated n T ws base l k first last) (coreAt n ws base k first last ∷ []))))
 
-shows-four : filteredFirst 4 3 d1Words (leastOf 1 1 4) ≡ allFour ∷ []
+shows-four : filteredFirst 4 3 d1Words (full 4) (leastOf 1 1 4) ≡ allFour ∷ []
 unfolding computing filteredFirst undominated passing coreAt
 shows-four = refl
 
-pub domination-after-filter : (call : ℕ → ℕ → List ℕ → Thresholds → List ℕ → Delivered) → ReportsGroups call filteredFirst → ⊥
+pub domination-after-filter : (call : ℕ → ℕ → List ℕ → ℕ → Thresholds → List ℕ → Delivered) → ReportsGroups call filteredFirst → ⊥
 unfolding computing
 domination-after-filter call p =
-    let none = four-none _ (p .stated 4 3 d1Words (leastOf 1 1 4) (record { lent = d1-lent; range = refl })) in
-    let there : Mem allFour (filteredFirst 4 3 d1Words (leastOf 1 1 4)) = rw shows-four (List·Memᴰ·head refl) in
+    let none = four-none _ (p .stated 4 3 d1Words (full 4) (leastOf 1 1 4) (record { lent = d1-lent; reviewed = all-reviewed d1-lent; range = refl })) in
+    let there : Mem allFour (filteredFirst 4 3 d1Words (full 4) (leastOf 1 1 4)) = rw shows-four (List·Memᴰ·head refl) in
     List·Memᴰ·not-nil (rw none at there)

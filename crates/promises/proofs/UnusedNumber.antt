@@ -20,3 +20,5 @@ never-16 r.InvalidSpan e = omega arith
 never-16 r.ForeignQuery e = omega arith
 never-16 r.InvalidParts e = omega arith
 never-16 r.ThresholdOutOfRange e = omega arith
+never-16 r.InvalidReview e = omega arith
+never-16 r.QueryNotReviewed e = omega arith

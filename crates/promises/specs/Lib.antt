@@ -4,6 +4,8 @@ pub mod Joining
 pub mod Tidying
 pub mod WrittenDays
 pub mod CoreNumbers
+-- what a review is held against
+pub mod Reviews
 -- the days on which they and the plan are tried
 pub mod D1
 pub mod Ties

@@ -10,7 +10,7 @@ use borrow.Author.Tests.{leb-true, le-leb, ltb-true, lt-ltb}
 use Rattle.sets.specs.Sets.{Sub, full}
 use Rattle.sets.specs.Tables.{keepIf, Pairwise, nothing}
 use Rattle.sets.proofs.Bools.{clash, and-in, and-left, and-right}
-use Rattle.sets.proofs.Sets.{sub-refl, sub-pos}
+use Rattle.sets.proofs.Sets.{sub-pos}
 use Rattle.sets.proofs.Size.{size-mono}
 use Rattle.sets.proofs.Concat.{in-concat, of-concat, keep-nil, in-keep, of-keep}
 use Rattle.sets.proofs.Pairwise.{pairwise-one, pairwise-concat, pairwise-keep, pairwise-two}
@@ -29,145 +29,145 @@ use Rattle.spans.proofs.KeptRecords.{meets-in, meets-of, in-kept, of-ke
 use Rattle.spans.proofs.Maximal.{score-on-le, maximal-of, maximal-in, group-of, groups-on}
 
 -- What is in the list: exactly the groups of the day's spans, with the members of their cores.
-pub record Shown (n T : ℕ) (ws : List ℕ) (c : SpanCore) : Type 0 where
+pub record Shown (n T : ℕ) (ws : List ℕ) (base : ℕ) (c : SpanCore) : Type 0 where
   pub rising : c .first ≤ c .last
   pub inside : c .last < T
-  pub group : isGroup n T ws (c .order) (c .first) (c .last) ≡ true
-  pub members : c .members ≡ coreOn n ws (c .order) (c .first) (c .last)
+  pub group : isGroup n T ws base (c .order) (c .first) (c .last) ≡ true
+  pub members : c .members ≡ coreOn n ws base (c .order) (c .first) (c .last)
 
-module _ (n T : ℕ) (ws : List ℕ) where
-  pub of-groups : (c : SpanCore) → Mem c (groupsOf n T ws) → Shown n T ws c
+module _ (n T : ℕ) (ws : List ℕ) (base : ℕ) where
+  pub of-groups : (c : SpanCore) → Mem c (groupsOf n T ws base) → Shown n T ws base c
   unfolding groupsOf groupsFrom groupsOn
   of-groups c i =
-      let x = of-concat T (groupsFrom n T ws) i in
+      let x = of-concat T (groupsFrom n T ws base) i in
       let y = of-concat T _ (x .2) in
       let z = of-keep (leb (x .0) (y .0)) _ (y .2) in
       let k = of-concat (suc n) _ (z .1) in
-      let g = of-keep (isGroup n T ws (k .0) (x .0) (y .0)) _ (k .2) in
+      let g = of-keep (isGroup n T ws base (k .0) (x .0) (y .0)) _ (k .2) in
       let e = List·Memᴰ·eq-of-singleton (g .1) in
       rw e (record { rising = leb-true _ _ (z .0); inside = y .1; group = g .0; members = refl })
 
-  pub in-groups : (k first last : ℕ) → first ≤ last → last < T → isGroup n T ws k first last ≡ true
-      → Mem (record { order = k; first = first; last = last; members = coreOn n ws k first last }) (groupsOf n T ws)
+  pub in-groups : (k first last : ℕ) → first ≤ last → last < T → isGroup n T ws base k first last ≡ true
+      → Mem (record { order = k; first = first; last = last; members = coreOn n ws base k first last }) (groupsOf n T ws base)
   unfolding groupsOf groupsFrom groupsOn
   in-groups k first last m w g =
-      in-concat T (groupsFrom n T ws) first (omega arith)
-      (in-concat T _ last w (in-keep _ _ (le-leb _ _ m) (in-concat (suc n) _ k (suc-le-suc (omega (arith, group-of n T ws first last m w k g .0, score-on-le n ws 0 first last))) (in-keep _ _ g (List·Memᴰ·head refl)))))
+      in-concat T (groupsFrom n T ws base) first (omega arith)
+      (in-concat T _ last w (in-keep _ _ (le-leb _ _ m) (in-concat (suc n) _ k (suc-le-suc (omega (arith, group-of n T ws base first last m w k g .0, score-on-le n ws base 0 first last))) (in-keep _ _ g (List·Memᴰ·head refl)))))
 
 -- a core of order k is there on a span of the day exactly when some set of order k is; it is such a set and holds every other
-module _ {n T : ℕ} {ws : List ℕ} {first last : ℕ} (d : SpanOfDay n T ws first last) (k : ℕ) where
-  pub order-sub : (s : ℕ) → OfOrder n ws (full n) k first last s → Sub s (coreOn n ws k first last)
+module _ {n T : ℕ} {ws : List ℕ} {base first last : ℕ} (d : SpanOfDay n T ws first last) (r : Sub base (full n)) (k : ℕ) where
+  pub order-sub : (s : ℕ) → OfOrder n ws base k first last s → Sub s (coreOn n ws base k first last)
   unfolding coreOn
-  order-sub s o = core-largest _ (full n) k s (o .within) (order-cohesive d (full n) (sub-refl _) o)
+  order-sub s o = core-largest _ base k s (o .within) (order-cohesive d base r o)
 
-  pub order-has : (s : ℕ) → OfOrder n ws (full n) k first last s → hasCore n ws k first last ≡ true
+  pub order-has : (s : ℕ) → OfOrder n ws base k first last s → hasCore n ws base k first last ≡ true
   unfolding hasCore
   order-has s o = lt-ltb _ _ (sub-pos (order-sub s o) (o .some))
 
-  pub has-order : hasCore n ws k first last ≡ true → OfOrder n ws (full n) k first last (coreOn n ws k first last)
+  pub has-order : hasCore n ws base k first last ≡ true → OfOrder n ws base k first last (coreOn n ws base k first last)
   unfolding hasCore coreOn
-  has-order e = cohesive-order d (full n) (sub-refl _) (core-sub _ (full n) k) (ltb-true _ _ e) (core-cohesive _ (full n) k)
+  has-order e = cohesive-order d base r (core-sub _ base k) (ltb-true _ _ e) (core-cohesive _ base k)
 
 -- what a group's test says
-pub group-parts : (n T : ℕ) (ws : List ℕ) (k first last : ℕ) → isGroup n T ws k first last ≡ true → (1 ≤ k) × (hasCore n ws k first last ≡ true) × (isMaximal n T ws k first last ≡ true)
+pub group-parts : (n T : ℕ) (ws : List ℕ) (base k first last : ℕ) → isGroup n T ws base k first last ≡ true → (1 ≤ k) × (hasCore n ws base k first last ≡ true) × (isMaximal n T ws base k first last ≡ true)
 unfolding isGroup
-group-parts n T ws k first last e = (leb-true _ _ (and-left _ _ (and-left _ _ e)), and-right _ _ (and-left _ _ e), and-right _ _ e)
+group-parts n T ws base k first last e = (leb-true _ _ (and-left _ _ (and-left _ _ e)), and-right _ _ (and-left _ _ e), and-right _ _ e)
 
-pub group-whole : (n T : ℕ) (ws : List ℕ) (k first last : ℕ) → 1 ≤ k → hasCore n ws k first last ≡ true → isMaximal n T ws k first last ≡ true → isGroup n T ws k first last ≡ true
+pub group-whole : (n T : ℕ) (ws : List ℕ) (base k first last : ℕ) → 1 ≤ k → hasCore n ws base k first last ≡ true → isMaximal n T ws base k first last ≡ true → isGroup n T ws base k first last ≡ true
 unfolding isGroup
-group-whole n T ws k first last l h m = and-in _ _ (and-in _ _ (le-leb _ _ l) h) m
+group-whole n T ws base k first last l h m = and-in _ _ (and-in _ _ (le-leb _ _ l) h) m
 
 -- on a day, a group's order and span are unsurpassed, and what is unsurpassed is a group's
-module _ {n T : ℕ} {ws : List ℕ} (lent : LentDay n T ws) where
+module _ {n T : ℕ} {ws : List ℕ} {base : ℕ} (lent : LentDay n T ws) (r : Sub base (full n)) where
   span : {first last : ℕ} → first ≤ last → last < T → SpanOfDay n T ws first last
   span m w = record { lent = lent; rising = m; inside = w }
 
-  pub unsurpassed-of : (k first last : ℕ) → first ≤ last → last < T → isGroup n T ws k first last ≡ true → Unsurpassed n T ws (full n) k first last
-  unsurpassed-of k first last m w g = let p = group-parts n T ws k first last g in record {
-    some = (coreOn n ws k first last, has-order (span m w) k (p .1));
+  pub unsurpassed-of : (k first last : ℕ) → first ≤ last → last < T → isGroup n T ws base k first last ≡ true → Unsurpassed n T ws base k first last
+  unsurpassed-of k first last m w g = let p = group-parts n T ws base k first last g in record {
+    some = (coreOn n ws base k first last, has-order (span m w) r k (p .1));
     none = λ k′ first′ last′ s a b c e o.
-        maximal-of n T ws k first last (p .2) k′ first′ last′ (omega arith) e a b c (order-has (span (omega arith) e) k′ s o);
+        maximal-of n T ws base k first last (p .2) k′ first′ last′ (omega arith) e a b c (order-has (span (omega arith) e) r k′ s o);
   }
 
-  pub unsurpassed-in : (k first last : ℕ) → 1 ≤ k → first ≤ last → last < T → Unsurpassed n T ws (full n) k first last → isGroup n T ws k first last ≡ true
-  unsurpassed-in k first last l m w u = group-whole n T ws k first last l (order-has (span m w) k (u .some .0) (u .some .1))
-      (maximal-in n T ws k first last (λ k′ first′ last′ p q a b c h. u .none k′ first′ last′ (coreOn n ws k′ first′ last′) a b c q (has-order (span p q) k′ h)))
+  pub unsurpassed-in : (k first last : ℕ) → 1 ≤ k → first ≤ last → last < T → Unsurpassed n T ws base k first last → isGroup n T ws base k first last ≡ true
+  unsurpassed-in k first last l m w u = group-whole n T ws base k first last l (order-has (span m w) r k (u .some .0) (u .some .1))
+      (maximal-in n T ws base k first last (λ k′ first′ last′ p q a b c h. u .none k′ first′ last′ (coreOn n ws base k′ first′ last′) a b c q (has-order (span p q) r k′ h)))
 
 -- no two records of the list have the same span
 abbrev Apart : SpanCore → SpanCore → Type 0
 Apart c d = Has c (d .order) (d .first) (d .last) → ⊥
 
-of-cell : (n T : ℕ) (ws : List ℕ) (first last : ℕ) (c : SpanCore) → Mem c (keepIf (leb first last) (groupsOn n T ws first last)) → (c .first ≡ first) × (c .last ≡ last)
+of-cell : (n T : ℕ) (ws : List ℕ) (base first last : ℕ) (c : SpanCore) → Mem c (keepIf (leb first last) (groupsOn n T ws base first last)) → (c .first ≡ first) × (c .last ≡ last)
 unfolding groupsOn
-of-cell n T ws first last c i =
+of-cell n T ws base first last c i =
     let k = of-concat (suc n) _ (of-keep (leb first last) _ i .1) in
-    let e = List·Memᴰ·eq-of-singleton (of-keep (isGroup n T ws (k .0) first last) _ (k .2) .1) in
+    let e = List·Memᴰ·eq-of-singleton (of-keep (isGroup n T ws base (k .0) first last) _ (k .2) .1) in
     (ap (λ (x : SpanCore). x .first) e, ap (λ (x : SpanCore). x .last) e)
 
-of-line : (n T : ℕ) (ws : List ℕ) (first : ℕ) (c : SpanCore) → Mem c (groupsFrom n T ws first) → c .first ≡ first
+of-line : (n T : ℕ) (ws : List ℕ) (base first : ℕ) (c : SpanCore) → Mem c (groupsFrom n T ws base first) → c .first ≡ first
 unfolding groupsFrom
-of-line n T ws first c i = let x = of-concat T _ i in of-cell n T ws first (x .0) c (x .2) .0
+of-line n T ws base first c i = let x = of-concat T _ i in of-cell n T ws base first (x .0) c (x .2) .0
 
-cell-apart : (n T : ℕ) (ws : List ℕ) (first last : ℕ) → last < T → Pairwise Apart (keepIf (leb first last) (groupsOn n T ws first last))
-cell-apart n T ws first last w = go (leb first last) refl
+cell-apart : (n T : ℕ) (ws : List ℕ) (base first last : ℕ) → last < T → Pairwise Apart (keepIf (leb first last) (groupsOn n T ws base first last))
+cell-apart n T ws base first last w = go (leb first last) refl
   where
-    go : (b : Bool) → leb first last ≡ b → Pairwise Apart (keepIf b (groupsOn n T ws first last))
+    go : (b : Bool) → leb first last ≡ b → Pairwise Apart (keepIf b (groupsOn n T ws base first last))
     go false e = pairwise-keep-none
       where
-        pairwise-keep-none : Pairwise Apart (keepIf false (groupsOn n T ws first last))
-        pairwise-keep-none = rw (keep-nil false (groupsOn n T ws first last) (λ f. clash f refl)) nothing
-    go true e = pairwise-keep true (rw (groups-on n T ws first last (leb-true _ _ e) w) (pairwise-keep _ (pairwise-one _)))
+        pairwise-keep-none : Pairwise Apart (keepIf false (groupsOn n T ws base first last))
+        pairwise-keep-none = rw (keep-nil false (groupsOn n T ws base first last) (λ f. clash f refl)) nothing
+    go true e = pairwise-keep true (rw (groups-on n T ws base first last (leb-true _ _ e) w) (pairwise-keep _ (pairwise-one _)))
 
-pub groups-apart : (n T : ℕ) (ws : List ℕ) → Pairwise Apart (groupsOf n T ws)
+pub groups-apart : (n T : ℕ) (ws : List ℕ) (base : ℕ) → Pairwise Apart (groupsOf n T ws base)
 unfolding groupsOf groupsFrom
-groups-apart n T ws = pairwise-concat T (groupsFrom n T ws)
-    (λ first l. pairwise-concat T _ (λ last w. cell-apart n T ws first last w)
-    (λ i j a b x y p q h. omega (arith, of-cell n T ws first i x p .1, of-cell n T ws first j y q .1, h .its-last)))
-    (λ i j a b x y p q h. omega (arith, of-line n T ws i x p, of-line n T ws j y q, h .its-first))
+groups-apart n T ws base = pairwise-concat T (groupsFrom n T ws base)
+    (λ first l. pairwise-concat T _ (λ last w. cell-apart n T ws base first last w)
+    (λ i j a b x y p q h. omega (arith, of-cell n T ws base first i x p .1, of-cell n T ws base first j y q .1, h .its-last)))
+    (λ i j a b x y p q h. omega (arith, of-line n T ws base i x p, of-line n T ws base j y q, h .its-first))
 
 -- what a record of the list shows, order and span unsurpassed and enough for the thresholds, where it meets them; and such a record meets them
-module _ {n T : ℕ} {ws : List ℕ} (lent : LentDay n T ws) (least : Thresholds) where
-  shown-order : {c : SpanCore} → Shown n T ws c → OfOrder n ws (full n) (c .order) (c .first) (c .last) (c .members)
-  shown-order {c} s = rw (s .members) (has-order (span lent (s .rising) (s .inside)) (c .order) (group-parts n T ws _ _ _ (s .group) .1))
+module _ {n T : ℕ} {ws : List ℕ} {base : ℕ} (lent : LentDay n T ws) (r : Sub base (full n)) (least : Thresholds) where
+  shown-order : {c : SpanCore} → Shown n T ws base c → OfOrder n ws base (c .order) (c .first) (c .last) (c .members)
+  shown-order {c} s = rw (s .members) (has-order (span lent r (s .rising) (s .inside)) r (c .order) (group-parts n T ws base _ _ _ (s .group) .1))
 
-  passes-of : (c : SpanCore) → Shown n T ws c → meets least c ≡ true → Unsurpassed n T ws (full n) (c .order) (c .first) (c .last) × LargeEnough n ws (full n) least (c .order) (c .first) (c .last)
+  passes-of : (c : SpanCore) → Shown n T ws base c → meets least c ≡ true → Unsurpassed n T ws base (c .order) (c .first) (c .last) × LargeEnough n ws base least (c .order) (c .first) (c .last)
   passes-of c s e =
       let m = meets-of least c e in
-      (unsurpassed-of lent (c .order) (c .first) (c .last) (s .rising) (s .inside) (s .group), record { long = m .0; high = m .1; many = (c .members, shown-order s, m .2) })
+      (unsurpassed-of lent r (c .order) (c .first) (c .last) (s .rising) (s .inside) (s .group), record { long = m .0; high = m .1; many = (c .members, shown-order s, m .2) })
 
-  passes-in : (k first last : ℕ) → first ≤ last → last < T → LargeEnough n ws (full n) least k first last
-      → meets least (record { order = k; first = first; last = last; members = coreOn n ws k first last }) ≡ true
+  passes-in : (k first last : ℕ) → first ≤ last → last < T → LargeEnough n ws base least k first last
+      → meets least (record { order = k; first = first; last = last; members = coreOn n ws base k first last }) ≡ true
   passes-in k first last m w e =
       let s = e .many in
-      meets-in least _ (e .long) (e .high) (omega (arith, s .2, size-mono (order-sub (span lent m w) k (s .0) (s .1))))
+      meets-in least _ (e .long) (e .high) (omega (arith, s .2, size-mono (order-sub (span lent r m w) r k (s .0) (s .1))))
 
 -- The group statement.
-pub groups-stated : (n T : ℕ) (ws : List ℕ) (least : Thresholds) → LentDay n T ws → GroupStatement n T ws (full n) least (kept least (groupsOf n T ws))
-groups-stated n T ws least lent = record {
-  order = λ c i. group-parts n T ws _ _ _ (shown c i .group) .0;
+pub groups-stated : (n T : ℕ) (ws : List ℕ) (base : ℕ) (least : Thresholds) → LentDay n T ws → Sub base (full n) → GroupStatement n T ws base least (kept least (groupsOf n T ws base))
+groups-stated n T ws base least lent r = record {
+  order = λ c i. group-parts n T ws base _ _ _ (shown c i .group) .0;
   span = λ c i. (shown c i .rising, shown c i .inside);
   exactly = λ k first last l m w. (
-    λ x. let e = passes-of lent least (x .0) (shown (x .0) (x .1)) (of-kept least _ (x .1) .1) in let h = x .2 in rw (h .its-order, h .its-first, h .its-last) at e,
+    λ x. let e = passes-of lent r least (x .0) (shown (x .0) (x .1)) (of-kept least _ (x .1) .1) in let h = x .2 in rw (h .its-order, h .its-first, h .its-last) at e,
     λ u. (
-      record { order = k; first = first; last = last; members = coreOn n ws k first last },
-      in-kept least _ (in-groups n T ws k first last m w (unsurpassed-in lent k first last l m w (u .0))) (passes-in lent least k first last m w (u .1)),
+      record { order = k; first = first; last = last; members = coreOn n ws base k first last },
+      in-kept least _ (in-groups n T ws base k first last m w (unsurpassed-in lent r k first last l m w (u .0))) (passes-in lent r least k first last m w (u .1)),
       record { its-order = refl; its-first = refl; its-last = refl },
     ),
   );
-  once = λ xs ys zs c d e. pairwise-two xs ys zs c d (rw e at (kept-pairwise least _ (groups-apart n T ws)));
-  members = λ c i. shown-order lent least (shown c i);
-  largest = λ c t i o. let s = shown c i in rw (s .members) (order-sub (span lent (s .rising) (s .inside)) (c .order) t o);
+  once = λ xs ys zs c d e. pairwise-two xs ys zs c d (rw e at (kept-pairwise least _ (groups-apart n T ws base)));
+  members = λ c i. shown-order lent r least (shown c i);
+  largest = λ c t i o. let s = shown c i in rw (s .members) (order-sub (span lent r (s .rising) (s .inside)) r (c .order) t o);
 }
   where
-    shown : (c : SpanCore) → Mem c (kept least (groupsOf n T ws)) → Shown n T ws c
-    shown c i = of-groups n T ws c (of-kept least (groupsOf n T ws) i .0)
+    shown : (c : SpanCore) → Mem c (kept least (groupsOf n T ws base)) → Shown n T ws base c
+    shown c i = of-groups n T ws base c (of-kept least (groupsOf n T ws base) i .0)
 
 -- "With 1, 1 and 2 it is the plain report": every span has a tick, every group an order of 1 or more, and so two members or more.
-pub kept-plain : {n T : ℕ} {ws : List ℕ} → LentDay n T ws → kept plain (groupsOf n T ws) ≡ groupsOf n T ws
-kept-plain {n} {T} {ws} lent = kept-all plain (groupsOf n T ws) (λ c i.
-    let s = of-groups n T ws c i in
-    let p = group-parts n T ws _ _ _ (s .group) in
-    meets-in plain c (omega (arith, s .rising)) (p .0) (omega (arith, p .0, order-many (shown-order lent plain s))))
+pub kept-plain : {n T : ℕ} {ws : List ℕ} {base : ℕ} → LentDay n T ws → Sub base (full n) → kept plain (groupsOf n T ws base) ≡ groupsOf n T ws base
+kept-plain {n} {T} {ws} {base} lent r = kept-all plain (groupsOf n T ws base) (λ c i.
+    let s = of-groups n T ws base c i in
+    let p = group-parts n T ws base _ _ _ (s .group) in
+    meets-in plain c (omega (arith, s .rising)) (p .0) (omega (arith, p .0, order-many (shown-order lent r plain s))))
 
 -- So with 1, 1 and 2 the statement is demand 3's own: a record is there exactly when its order and span are unsurpassed.
 pub plain-exactly : {n T : ℕ} {ws : List ℕ} {base : ℕ} {groups : List SpanCore} → GroupStatement n T ws base plain groups

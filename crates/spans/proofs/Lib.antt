@@ -2,6 +2,7 @@
 
 -- spans: their rows, and the sets of an order on them
 pub mod SpanRows
+pub mod Reviews
 pub mod OrderSets
 -- records in bytes
 pub mod Encoding

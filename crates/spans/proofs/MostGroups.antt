@@ -46,38 +46,38 @@ pub spans-few : {T : ℕ} → T ≤ maxTicks → spanCount T ≤ maxGroups
 unfolding spanCount
 spans-few {T} s = let k : suc T ≤ suc maxTicks = omega arith in omega (arith, mul-le-mul s k)
 
-module _ (n T : ℕ) (ws : List ℕ) where
+module _ (n T : ℕ) (ws : List ℕ) (base : ℕ) where
   -- at most one for each last tick from the first tick on
-  pub line-few : (first : ℕ) → length (groupsFrom n T ws first) ≤ T - first
+  pub line-few : (first : ℕ) → length (groupsFrom n T ws base first) ≤ T - first
   unfolding groupsFrom
   line-few first = concat-from cell first T before (λ last m. one last m (leb first last) refl)
     where
       cell : ℕ → List SpanCore
-      cell last = keepIf (leb first last) (groupsOn n T ws first last)
+      cell last = keepIf (leb first last) (groupsOn n T ws base first last)
 
       before : (last : ℕ) → last < first → cell last ≡ []
-      before last h = keep-nil (leb first last) (groupsOn n T ws first last) (λ e. let k : first ≤ last = leb-true first last e in omega arith)
+      before last h = keep-nil (leb first last) (groupsOn n T ws base first last) (λ e. let k : first ≤ last = leb-true first last e in omega arith)
 
       one : (last : ℕ) → last < T → (b : Bool) → leb first last ≡ b → length (cell last) ≤ 1
       one last m false e = rw (before last (leb-false first last e)) (omega arith)
       one last m true e =
-          let single : length (groupsOn n T ws first last) ≤ 1 = rw (groups-on n T ws first last (leb-true first last e) m) (keep-le _ _) in
-          omega (arith, keep-le (leb first last) (groupsOn n T ws first last))
+          let single : length (groupsOn n T ws base first last) ≤ 1 = rw (groups-on n T ws base first last (leb-true first last e) m) (keep-le _ _) in
+          omega (arith, keep-le (leb first last) (groupsOn n T ws base first last))
 
   -- so many of the spans that start before a tick, and one for each last tick from it on, are no more than there are spans
-  pub groups-before : (first : ℕ) → first ≤ T → length (concatBelow first (groupsFrom n T ws)) + (T - first) ≤ spanCount T
+  pub groups-before : (first : ℕ) → first ≤ T → length (concatBelow first (groupsFrom n T ws base)) + (T - first) ≤ spanCount T
   unfolding spanCount
   groups-before first h =
       let double : (T - first) * 2 ≤ (T - first) * suc (T - first) = double-le (T - first) in
-      omega (arith, concat-triangle T (groupsFrom n T ws) first h (λ i l. line-few i))
+      omega (arith, concat-triangle T (groupsFrom n T ws base) first h (λ i l. line-few i))
     where
       double-le : (d : ℕ) → d * 2 ≤ d * suc d
       double-le zero = omega arith
       double-le (suc d) = let l : 2 ≤ suc (suc d) = omega arith in mul-le-mul-left (suc d) l
 
-  pub groups-few : T ≤ maxTicks → length (groupsOf n T ws) ≤ maxGroups
+  pub groups-few : T ≤ maxTicks → length (groupsOf n T ws base) ≤ maxGroups
   unfolding groupsOf
   groups-few s = omega (arith, groups-before T (le-refl T), spans-few s)
 
-  pub report-most : T ≤ maxTicks → length (reportBytes n T (groupsOf n T ws)) ≤ maxReportBytes
-  report-most s = omega (arith, report-length n T (groupsOf n T ws), groups-few s)
+  pub report-most : T ≤ maxTicks → length (reportBytes n T (groupsOf n T ws base)) ≤ maxReportBytes
+  report-most s = omega (arith, report-length n T (groupsOf n T ws base), groups-few s)

@@ -8,30 +8,31 @@ use native.Mathlib.Omega.{arith}
 use lib.ListN.{length}
 use Rattle.sets.specs.Sets.{Sub, full}
 use Rattle.sets.specs.Members.{capacity}
-use Rattle.sets.proofs.Sets.{in-full, of-full, lt-of-members}
+use Rattle.sets.proofs.Sets.{of-full, sub-trans, lt-of-members}
 use Rattle.records.proofs.WithinLimits.{limits-of}
 use Rattle.cores.proofs.Degrees.{LeastDegree}
 use Rattle.cores.specs.Cores.{core}
 use Rattle.cores.proofs.Cores.{core-sub, core-zero}
-use Rattle.cores.proofs.Orders.{member-pos, contains-of, score-best, shown-contain, shown-least}
+use Rattle.cores.proofs.Orders.{contains-of, score-best, shown-contain, shown-least}
 use Rattle.cuts.specs.Cuttings.{Cutting, total, IsBest, IsFirstBest}
 use Rattle.cuts.specs.Sums.{bestEnds}
 use Rattle.cuts.proofs.Cuttings.{Cuts, one, more, to-cuts, of-cuts}
 use Rattle.cuts.proofs.Sums.{best-ends}
 use Rattle.spans.specs.Spans.{SpanOfDay, spanNeighbours}
+use Rattle.spans.specs.Reviews.{Review}
 use Rattle.spans.specs.SpanCores.{SpanCore, Mem, coreOn}
 use Rattle.spans.specs.Plans.{scoreOn, membersOn, partOn, partsFrom, partsOf}
 use Rattle.spans.specs.PlanStatement.{LeastOn, Runs, none, run, CuttingWithSets, sumOfOrders, partEnds, PlanStatement, PlanAsked}
 use Rattle.spans.proofs.OrderSets.{fellows-degree}
 
--- the members shown at a score are the core of that order: that of order 0 is all n badges
-members-core : (n : ℕ) (ws : List ℕ) (k first last : ℕ) → membersOn n ws k first last ≡ core (spanNeighbours n ws first last) (full n) k
+-- the members shown at a score are the core of that order: that of order 0 is the reviewed set
+members-core : (n : ℕ) (ws : List ℕ) (base k first last : ℕ) → membersOn n ws base k first last ≡ core (spanNeighbours n ws first last) base k
 unfolding membersOn coreOn
-members-core n ws zero first last = sym (core-zero (spanNeighbours n ws first last) (full n))
-members-core n ws (suc k) first last = refl
+members-core n ws base zero first last = sym (core-zero (spanNeighbours n ws first last) base)
+members-core n ws base (suc k) first last = refl
 
-members-sub : (n : ℕ) (ws : List ℕ) (k first last : ℕ) → Sub (membersOn n ws k first last) (full n)
-members-sub n ws k first last = rw (members-core n ws k first last) (core-sub (spanNeighbours n ws first last) (full n) k)
+members-sub : (n : ℕ) (ws : List ℕ) (base k first last : ℕ) → Sub (membersOn n ws base k first last) base
+members-sub n ws base k first last = rw (members-core n ws base k first last) (core-sub (spanNeighbours n ws first last) base k)
 
 -- on a span of a day, the least degree by fellow members is that of the span's graph
 module _ {n T : ℕ} {ws : List ℕ} {first last s k : ℕ} (d : SpanOfDay n T ws first last) (w : Sub s (full n)) where
@@ -47,36 +48,35 @@ module _ {n T : ℕ} {ws : List ℕ} {first last s k : ℕ} (d : SpanOfDay n T w
     attained = (x .0, x .1, fellows-degree d s w (x .0) (x .1) ∙ x .2);
   }
 
--- what is chosen for a run: a non-empty set of badges that holds the query, and its least degree there
-record Chosen (n : ℕ) (ws : List ℕ) (query : ℕ) (p : SpanCore) : Type 0 where
-  within : Sub (p .members) (full n)
+-- what is chosen for a run: a non-empty set of reviewed badges that holds the query, and its least degree there
+record Chosen (n : ℕ) (ws : List ℕ) (base query : ℕ) (p : SpanCore) : Type 0 where
+  within : Sub (p .members) base
   some : 0 < p .members
   holds : Sub query (p .members)
   least : LeastOn n ws (p .first) (p .last) (p .members) (p .order)
 
 -- on a span of a day, a part's score and members are such,
-part-chosen : {n T : ℕ} {ws : List ℕ} {first last : ℕ} (query : ℕ) → SpanOfDay n T ws first last → Sub query (full n)
-    → Chosen n ws query (partOn n ws query first last)
+part-chosen : {n T : ℕ} {ws : List ℕ} {base first last : ℕ} (query : ℕ) → SpanOfDay n T ws first last → Review n base → Sub query base
+    → Chosen n ws base query (partOn n ws base query first last)
 unfolding partOn scoreOn
-part-chosen {n} {T} {ws} {first} {last} query d b =
+part-chosen {n} {T} {ws} {base} {first} {last} query d v b =
     let rows = spanNeighbours n ws first last in
-    let p : 0 < full n = member-pos (full n) 0 (in-full n 0 (limits-of (d .lent .limits) .some)) in
-    let e = members-core n ws (scoreOn n ws query first last) first last in
-    let r = contains-of rows (full n) query (scoreOn n ws query first last) (shown-contain rows (full n) query p b) in
-    let w = members-sub n ws (scoreOn n ws query first last) first last in
+    let e = members-core n ws base (scoreOn n ws base query first last) first last in
+    let r = contains-of rows base query (scoreOn n ws base query first last) (shown-contain rows base query (v .some) b) in
+    let w = members-sub n ws base (scoreOn n ws base query first last) first last in
     record {
       within = w;
       some = rw e (r .0);
       holds = rw e (r .1);
-      least = degree-least d w (rw e (shown-least rows (full n) query p b));
+      least = degree-least d (sub-trans w (v .named)) (rw e (shown-least rows base query (v .some) b));
     }
 
 -- and no set that holds the query has a larger least degree than the score
-pub order-le : {n T : ℕ} {ws : List ℕ} {first last : ℕ} (query : ℕ) {s k : ℕ} → SpanOfDay n T ws first last → Sub s (full n) → Sub query s
-    → LeastOn n ws first last s k → k ≤ scoreOn n ws query first last
+pub order-le : {n T : ℕ} {ws : List ℕ} {base first last : ℕ} (query : ℕ) {s k : ℕ} → SpanOfDay n T ws first last → Sub base (full n) → Sub s base → Sub query s
+    → LeastOn n ws first last s k → k ≤ scoreOn n ws base query first last
 unfolding scoreOn
-order-le {n} {T} {ws} {first} {last} query {s} {k} d w h l =
-    score-best (spanNeighbours n ws first last) (full n) query s k w h (least-degree d w l)
+order-le {n} {T} {ws} {base} {first} {last} query {s} {k} d r w h l =
+    score-best (spanNeighbours n ws first last) base query s k w h (least-degree d (sub-trans w r) l)
 
 -- runs end to end stay within the day, so each is a span of it
 runs-fit : {T h t : ℕ} {ps : List SpanCore} → Runs T h t ps → t ≤ T
@@ -107,70 +107,70 @@ sum-le f (run {p = p} {ps = ps} l r) k = omega (arith, k p (List·Memᴰ·head r
 
 -- the parts that a list of ends cuts: as many as the ends, each the part of its run, with members that fit a set; their orders' sum is that of
 -- the scores; those of a list with c cuts are c + 1 runs
-module _ (n : ℕ) (ws : List ℕ) (query : ℕ) where
-  pub parts-length : (t : ℕ) (ends : List ℕ) → length (partsFrom n ws query t ends) ≡ length ends
+module _ (n : ℕ) (ws : List ℕ) (base query : ℕ) where
+  pub parts-length : (t : ℕ) (ends : List ℕ) → length (partsFrom n ws base query t ends) ≡ length ends
   unfolding partsFrom
   parts-length t [] = refl
   parts-length t (e ∷ es) = ap suc (parts-length (suc e) es)
 
-  parts-are : (t : ℕ) (ends : List ℕ) (p : SpanCore) → Mem p (partsFrom n ws query t ends) → p ≡ partOn n ws query (p .first) (p .last)
+  parts-are : (t : ℕ) (ends : List ℕ) (p : SpanCore) → Mem p (partsFrom n ws base query t ends) → p ≡ partOn n ws base query (p .first) (p .last)
   unfolding partsFrom partOn
   parts-are t [] p i = absurd (List·Memᴰ·not-nil i)
   parts-are t (e ∷ es) p i = ⊎-elim (λ q. rw q) (parts-are (suc e) es p) (List·Memᴰ·cases-cons i)
 
-  parts-small : (t : ℕ) (ends : List ℕ) → n ≤ capacity → (p : SpanCore) → Mem p (partsFrom n ws query t ends) → p .members < 2 ^ capacity
+  parts-small : (t : ℕ) (ends : List ℕ) → n ≤ capacity → Sub base (full n) → (p : SpanCore) → Mem p (partsFrom n ws base query t ends) → p .members < 2 ^ capacity
   unfolding partOn
-  parts-small t ends w p i =
+  parts-small t ends w r p i =
       rw (parts-are t ends p i)
-      (lt-of-members capacity _ (λ u j. omega (arith, of-full n u (members-sub n ws (scoreOn n ws query (p .first) (p .last)) (p .first) (p .last) .at u j))))
+      (lt-of-members capacity _ (λ u j. omega (arith, of-full n u (r .at u (members-sub n ws base (scoreOn n ws base query (p .first) (p .last)) (p .first) (p .last) .at u j)))))
 
-  parts-sum : (t : ℕ) (ends : List ℕ) → sumOfOrders (partsFrom n ws query t ends) ≡ total (scoreOn n ws query) t ends
+  parts-sum : (t : ℕ) (ends : List ℕ) → sumOfOrders (partsFrom n ws base query t ends) ≡ total (scoreOn n ws base query) t ends
   unfolding partsFrom partOn sumOfOrders total
   parts-sum t [] = refl
-  parts-sum t (e ∷ es) = ap (λ (x : ℕ). scoreOn n ws query t e + x) (parts-sum (suc e) es)
+  parts-sum t (e ∷ es) = ap (λ (x : ℕ). scoreOn n ws base query t e + x) (parts-sum (suc e) es)
 
-  parts-runs : {T c t : ℕ} {ends : List ℕ} → Cuts T c t ends → Runs T (suc c) t (partsFrom n ws query t ends)
+  parts-runs : {T c t : ℕ} {ends : List ℕ} → Cuts T c t ends → Runs T (suc c) t (partsFrom n ws base query t ends)
   unfolding partsFrom partOn
-  parts-runs {T} (one {t} {e} l q) = let z : Runs T 0 (suc e) [] = rw q none in run {p = partOn n ws query t e} l z
-  parts-runs (more {c} {t} {e} l r) = run {p = partOn n ws query t e} l (parts-runs r)
+  parts-runs {T} (one {t} {e} l q) = let z : Runs T 0 (suc e) [] = rw q none in run {p = partOn n ws base query t e} l z
+  parts-runs (more {c} {t} {e} l r) = run {p = partOn n ws base query t e} l (parts-runs r)
 
-  parts-ends : (t : ℕ) (ends : List ℕ) → partEnds (partsFrom n ws query t ends) ≡ ends
+  parts-ends : (t : ℕ) (ends : List ℕ) → partEnds (partsFrom n ws base query t ends) ≡ ends
   unfolding partsFrom partOn
   parts-ends t [] = refl
   parts-ends t (e ∷ es) = ap (λ (x : List ℕ). e ∷ x) (parts-ends (suc e) es)
 
 -- The plan statement holds of a plan's parts.
-module _ {n T : ℕ} {ws : List ℕ} {query h : ℕ} (a : PlanAsked n T ws query h) where
+module _ {n T : ℕ} {ws : List ℕ} {base query h : ℕ} (a : PlanAsked n T ws base query h) where
   -- its ends are the first of the best cuttings
-  ends-first : IsFirstBest (scoreOn n ws query) T h (bestEnds (scoreOn n ws query) T h)
-  ends-first = best-ends (scoreOn n ws query) T h (a .some) (a .enough)
+  ends-first : IsFirstBest (scoreOn n ws base query) T h (bestEnds (scoreOn n ws base query) T h)
+  ends-first = best-ends (scoreOn n ws base query) T h (a .some) (a .enough)
 
   span : {first last : ℕ} → (first ≤ last) × (last < T) → SpanOfDay n T ws first last
   span x = record { lent = a .lent; rising = x .0; inside = x .1 }
 
   -- its runs, and what is chosen for each
-  plan-runs : Runs T h 0 (partsOf n T ws query h)
+  plan-runs : Runs T h 0 (partsOf n T ws base query h)
   unfolding partsOf
   plan-runs = go h refl
     where
-      go : (k : ℕ) → h ≡ k → Runs T h 0 (partsFrom n ws query 0 (bestEnds (scoreOn n ws query) T h))
+      go : (k : ℕ) → h ≡ k → Runs T h 0 (partsFrom n ws base query 0 (bestEnds (scoreOn n ws base query) T h))
       go zero e = absurd (omega (arith, a .some))
-      go (suc c) e = rw e (parts-runs n ws query (to-cuts (rw e at (ends-first .best .cutting))))
+      go (suc c) e = rw e (parts-runs n ws base query (to-cuts (rw e at (ends-first .best .cutting))))
 
-  plan-chosen : (p : SpanCore) → Mem p (partsOf n T ws query h) → Chosen n ws query p
+  plan-chosen : (p : SpanCore) → Mem p (partsOf n T ws base query h) → Chosen n ws base query p
   unfolding partsOf
-  plan-chosen p i = rw (parts-are n ws query 0 (bestEnds (scoreOn n ws query) T h) p i) (part-chosen query (span (runs-span plan-runs p i)) (a .named))
+  plan-chosen p i = rw (parts-are n ws base query 0 (bestEnds (scoreOn n ws base query) T h) p i) (part-chosen query (span (runs-span plan-runs p i)) (a .reviewed) (a .named))
 
-  plan-sum : sumOfOrders (partsOf n T ws query h) ≡ total (scoreOn n ws query) 0 (bestEnds (scoreOn n ws query) T h)
+  plan-sum : sumOfOrders (partsOf n T ws base query h) ≡ total (scoreOn n ws base query) 0 (bestEnds (scoreOn n ws base query) T h)
   unfolding partsOf
-  plan-sum = parts-sum n ws query 0 (bestEnds (scoreOn n ws query) T h)
+  plan-sum = parts-sum n ws base query 0 (bestEnds (scoreOn n ws base query) T h)
 
-  pub plan-ends : partEnds (partsOf n T ws query h) ≡ bestEnds (scoreOn n ws query) T h
+  pub plan-ends : partEnds (partsOf n T ws base query h) ≡ bestEnds (scoreOn n ws base query) T h
   unfolding partsOf
-  plan-ends = parts-ends n ws query 0 (bestEnds (scoreOn n ws query) T h)
+  plan-ends = parts-ends n ws base query 0 (bestEnds (scoreOn n ws base query) T h)
 
   -- any other cutting with sets: its ends cut the ticks, and its sum is no more than that of the scores of its runs
-  module _ (others : List SpanCore) (x : CuttingWithSets n T ws (full n) query h others) where
+  module _ (others : List SpanCore) (x : CuttingWithSets n T ws base query h others) where
     other-cutting : Cutting T h (partEnds others)
     other-cutting = go h refl
       where
@@ -178,23 +178,23 @@ module _ {n T : ℕ} {ws : List ℕ} {query h : ℕ} (a : PlanAsked n T ws query
         go zero e = absurd (omega (arith, a .some))
         go (suc c) e = rw e (of-cuts (runs-cuts (x .runs) c e))
 
-    other-sum : sumOfOrders others ≤ total (scoreOn n ws query) 0 (partEnds others)
-    other-sum = sum-le (scoreOn n ws query) (x .runs) (λ p i. order-le query (span (runs-span (x .runs) p i)) (x .within p i) (x .holds p i) (x .least p i))
+    other-sum : sumOfOrders others ≤ total (scoreOn n ws base query) 0 (partEnds others)
+    other-sum = sum-le (scoreOn n ws base query) (x .runs) (λ p i. order-le query (span (runs-span (x .runs) p i)) (a .reviewed .named) (x .within p i) (x .holds p i) (x .least p i))
 
     -- so it is a best cutting where its sum is the plan's
-    other-best : sumOfOrders others ≡ sumOfOrders (partsOf n T ws query h) → IsBest (scoreOn n ws query) T h (partEnds others)
+    other-best : sumOfOrders others ≡ sumOfOrders (partsOf n T ws base query h) → IsBest (scoreOn n ws base query) T h (partEnds others)
     other-best e = record { cutting = other-cutting; greatest = λ es c. omega (arith, ends-first .best .greatest es c, other-sum, plan-sum) }
 
   -- there are h parts, with members that fit a set
-  pub plan-count : length (partsOf n T ws query h) ≡ h
+  pub plan-count : length (partsOf n T ws base query h) ≡ h
   unfolding partsOf
-  plan-count = parts-length n ws query 0 (bestEnds (scoreOn n ws query) T h) ∙ ends-first .best .cutting .count
+  plan-count = parts-length n ws base query 0 (bestEnds (scoreOn n ws base query) T h) ∙ ends-first .best .cutting .count
 
-  pub plan-small : (p : SpanCore) → Mem p (partsOf n T ws query h) → p .members < 2 ^ capacity
+  pub plan-small : (p : SpanCore) → Mem p (partsOf n T ws base query h) → p .members < 2 ^ capacity
   unfolding partsOf
-  plan-small p i = parts-small n ws query 0 (bestEnds (scoreOn n ws query) T h) (limits-of (a .lent .limits) .few) p i
+  plan-small p i = parts-small n ws base query 0 (bestEnds (scoreOn n ws base query) T h) (limits-of (a .lent .limits) .few) (a .reviewed .named) p i
 
-  pub parts-stated : PlanStatement n T ws (full n) query h (partsOf n T ws query h)
+  pub parts-stated : PlanStatement n T ws base query h (partsOf n T ws base query h)
   parts-stated = record {
     cutting = record {
       runs = plan-runs;

@@ -11,7 +11,7 @@ use lib.Dec.{ltb}
 use lib.ListN.{length, getD, List·getD-eq-default}
 use borrow.Author.Tests.{leb-true, le-leb, ltb-true, lt-ltb}
 use Rattle.sets.specs.Bools.{_or_}
-use Rattle.sets.specs.Sets.{In, full}
+use Rattle.sets.specs.Sets.{In, Sub, full}
 use Rattle.sets.specs.Members.{capacity}
 use Rattle.sets.proofs.Bools.{and-in, and-left, and-right, or-left, or-right, or-of, all-in, all-of}
 use Rattle.sets.proofs.Sets.{in-test, has-test, in-set, of-set, of-set-lt, in-full, of-full}
@@ -74,11 +74,11 @@ abbrev pub SameDay : ℕ → ℕ → List ℕ → List ℕ → Type 0
 SameDay n T xs ys = (t u : ℕ) → t < T → u < n → neighbours n xs t u ≡ neighbours n ys t u
 
 -- have the same pairs on every span of the day
-pub fewer-head : (n T : ℕ) (xs ys : List ℕ) (first last : ℕ) → last < T → SameDay n T xs ys → FewerPairs (full n) (spanNeighbours n xs first last) (spanNeighbours n ys first last)
-fewer-head n T xs ys first last h f = record {
+pub fewer-head : (n T : ℕ) (xs ys : List ℕ) (base first last : ℕ) → last < T → SameDay n T xs ys → Sub base (full n) → FewerPairs base (spanNeighbours n xs first last) (spanNeighbours n ys first last)
+fewer-head n T xs ys base first last h f r = record {
   pair = λ u v i j k.
-      let r = of-span n xs first last u v k in
-      in-span n ys first last u v (r .0) (λ t p q. rw (f t u (omega arith) (of-full n u i)) at (r .1 t p q));
+      let x = of-span n xs first last u v k in
+      in-span n ys first last u v (x .0) (λ t p q. rw (f t u (omega arith) (of-full n u (r .at u i))) at (x .1 t p q));
 }
 
 -- words that differ only after the first n×T are such

@@ -1,5 +1,5 @@
 -- Demand 3, first half: the group statement, over any list of records, and which reports may be asked for. It speaks of days, ticks, spans, badge
--- sets and thresholds alone.
+-- sets and thresholds alone. "Each set in the group statement is then one of reviewed badges alone": base is the set under review.
 use mathlib.Core.Bool.{true}
 use mathlib.Core.List.{List, _∷_, _++_}
 use mathlib.Core.Logic.{_↔_}
@@ -10,6 +10,7 @@ use Rattle.days.specs.Days.{LentDay}
 use Rattle.thresholds.specs.declared.Thresholds.{Thresholds}
 use Rattle.spans.specs.Spans.{spanTicks}
 use Rattle.spans.specs.Contacts.{OfOrder}
+use Rattle.spans.specs.Reviews.{Review}
 use Rattle.spans.specs.SpanCores.{SpanCore, Mem}
 use Rattle.thresholds.specs.Ranges.{inRange}
 
@@ -47,7 +48,8 @@ pub record GroupStatement (n T : ℕ) (ws : List ℕ) (base : ℕ) (least : Thre
   pub members : (c : SpanCore) → Mem c groups → OfOrder n ws base (c .order) (c .first) (c .last) (c .members)
   pub largest : (c : SpanCore) (s : ℕ) → Mem c groups → OfOrder n ws base (c .order) (c .first) (c .last) s → Sub s (c .members)
 
--- a lent day, and thresholds within their ranges
-pub record ReportAsked (n T : ℕ) (ws : List ℕ) (least : Thresholds) : Type 0 where
+-- a lent day, a non-empty set of its badges, and thresholds within their ranges
+pub record ReportAsked (n T : ℕ) (ws : List ℕ) (base : ℕ) (least : Thresholds) : Type 0 where
   pub lent : LentDay n T ws
+  pub reviewed : Review n base
   pub range : inRange least ≡ true

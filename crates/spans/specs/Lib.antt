@@ -2,6 +2,7 @@
 -- (No promise rests on `LongerSpans`.)
 pub mod Spans
 pub mod Contacts
+pub mod Reviews
 pub mod SpanCores
 pub mod LongerSpans
 pub mod Reports

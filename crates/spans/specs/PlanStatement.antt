@@ -1,12 +1,14 @@
 -- Demand 3, second half, with request Three: the plan statement, over any list of parts, and which plans may be asked for. It speaks of days, ticks,
--- runs, badge sets, least degrees, sums and the order of lists alone.
+-- runs, badge sets, least degrees, sums and the order of lists alone. "A plan is compared only with cuttings whose sets hold reviewed badges alone":
+-- base is the set under review.
 use mathlib.Core.List.{List, [], _∷_, map}
 use mathlib.Core.Path.{_≡_}
 use Prim.Native.Nat.{ℕ, suc, _+_, _≤_, _<_}
-use Rattle.sets.specs.Sets.{In, Sub, size, full}
+use Rattle.sets.specs.Sets.{In, Sub, size}
 use Rattle.days.specs.Days.{LentDay}
 use Rattle.cuts.specs.Cuttings.{ComesBefore}
 use Rattle.spans.specs.Contacts.{fellows}
+use Rattle.spans.specs.Reviews.{Review}
 use Rattle.spans.specs.SpanCores.{SpanCore, Mem}
 
 -- d is the least degree of a set on a run: the smallest number of fellow members of a member, in contact with it in every tick of the run
@@ -44,9 +46,10 @@ pub record PlanStatement (n T : ℕ) (ws : List ℕ) (base query h : ℕ) (parts
   pub first : (others : List SpanCore) → CuttingWithSets n T ws base query h others → sumOfOrders others ≡ sumOfOrders parts
       → ComesBefore (partEnds others) (partEnds parts) → ⊥
 
--- a lent day, "every h from 1 to the number of ticks and every query naming only the day's badges"
-pub record PlanAsked (n T : ℕ) (ws : List ℕ) (query h : ℕ) : Type 0 where
+-- a lent day, a non-empty set of its badges, "every h from 1 to the number of ticks and every query" "of reviewed badges"
+pub record PlanAsked (n T : ℕ) (ws : List ℕ) (base query h : ℕ) : Type 0 where
   pub lent : LentDay n T ws
-  pub named : Sub query (full n)
+  pub reviewed : Review n base
+  pub named : Sub query base
   pub some : 1 ≤ h
   pub enough : h ≤ T

@@ -4,7 +4,6 @@ use mathlib.Core.Bool.{Bool}
 use mathlib.Core.List.{List, List·Memᴰ}
 use Prim.Native.Nat.{ℕ}
 use lib.Dec.{ltb}
-use Rattle.sets.specs.Sets.{full}
 use Rattle.cores.specs.Cores.{core}
 use Rattle.spans.specs.Spans.{spanNeighbours}
 
@@ -17,9 +16,9 @@ pub record SpanCore : Type 0 where
 abbrev pub Mem : SpanCore → List SpanCore → Type 0
 Mem c cs = List·Memᴰ c cs
 
--- the members of the core of order k on a span, among all n badges: none where there is no such core
-unfoldable pub coreOn : ℕ → List ℕ → ℕ → ℕ → ℕ → ℕ
-coreOn n ws k first last = core (spanNeighbours n ws first last) (full n) k
+-- the members of the core of order k on a span, among the badges of a base set (those under review): none where there is no such core
+unfoldable pub coreOn : ℕ → List ℕ → ℕ → ℕ → ℕ → ℕ → ℕ
+coreOn n ws base k first last = core (spanNeighbours n ws first last) base k
 
-unfoldable pub hasCore : ℕ → List ℕ → ℕ → ℕ → ℕ → Bool
-hasCore n ws k first last = ltb 0 (coreOn n ws k first last)
+unfoldable pub hasCore : ℕ → List ℕ → ℕ → ℕ → ℕ → ℕ → Bool
+hasCore n ws base k first last = ltb 0 (coreOn n ws base k first last)

@@ -8,6 +8,7 @@ use native.Mathlib.Decide.{decLe}
 use native.Mathlib.Omega.{arith}
 use lib.ListN.{length, take, drop, length-take, length-drop, take-append-drop, drop-of-length-le}
 use lib.Seq.{take-append-seam, drop-drop}
+use Rattle.sets.specs.Sets.{full}
 use Rattle.records.specs.declared.record.Record.{Record}
 use Rattle.records.specs.Limits.{maxBadges, maxTicks, maxWords}
 use Rattle.records.specs.Outcomes.{Outcome, refused, success}
@@ -88,21 +89,21 @@ of-lines (c ∷ cs) (List·Memᴰ·head e) = (c, List·Memᴰ·head refl, e)
 of-lines (c ∷ cs) (List·Memᴰ·tail m) = let r = of-lines cs m in (r .0, List·Memᴰ·tail (r .1), r .2)
 
 -- No line of a report has more than 320 bytes,
-module _ (n T : ℕ) (ws : List ℕ) (few : n ≤ maxBadges) (short : T ≤ maxTicks) where
-  group-line-short : (c : SpanCore) → Mem c (groupsOf n T ws) → length (groupLine c) ≤ lineRoom
+module _ (n T : ℕ) (ws : List ℕ) (base : ℕ) (few : n ≤ maxBadges) (short : T ≤ maxTicks) where
+  group-line-short : (c : SpanCore) → Mem c (groupsOf n T ws base) → length (groupLine c) ≤ lineRoom
   group-line-short c i =
-      let s = of-groups n T ws c i in
-      let p = group-parts n T ws (c .order) (c .first) (c .last) (s .group) in
-      group-short c (omega (arith, score-has n ws (c .order) (c .first) (c .last) (p .1), score-on-le n ws 0 (c .first) (c .last))) (omega (arith, s .rising, s .inside)) (omega (arith, s .inside))
+      let s = of-groups n T ws base c i in
+      let p = group-parts n T ws base (c .order) (c .first) (c .last) (s .group) in
+      group-short c (omega (arith, score-has n ws base (c .order) (c .first) (c .last) (p .1), score-on-le n ws base 0 (c .first) (c .last))) (omega (arith, s .rising, s .inside)) (omega (arith, s .inside))
 
-  report-line-short : (l : List ℕ) → List·Memᴰ l (reportLines n T (groupsOf n T ws)) → length l ≤ lineRoom
+  report-line-short : (l : List ℕ) → List·Memᴰ l (reportLines n T (groupsOf n T ws base)) → length l ≤ lineRoom
   unfolding reportLines
-  report-line-short l (List·Memᴰ·head e) = rw e (head-short n T (length (groupsOf n T ws)) (omega arith) (omega arith) (omega (arith, groups-few n T ws short)))
-  report-line-short l (List·Memᴰ·tail m) = let r = of-lines (groupsOf n T ws) m in rw (r .2) (group-line-short (r .0) (r .1))
+  report-line-short l (List·Memᴰ·head e) = rw e (head-short n T (length (groupsOf n T ws base)) (omega arith) (omega arith) (omega (arith, groups-few n T ws base short)))
+  report-line-short l (List·Memᴰ·tail m) = let r = of-lines (groupsOf n T ws base) m in rw (r .2) (group-line-short (r .0) (r .1))
 
-  report-lines-few : length (reportLines n T (groupsOf n T ws)) ≤ suc maxGroups
+  report-lines-few : length (reportLines n T (groupsOf n T ws base)) ≤ suc maxGroups
   unfolding reportLines
-  report-lines-few = omega (arith, lines-length (groupsOf n T ws), groups-few n T ws short)
+  report-lines-few = omega (arith, lines-length (groupsOf n T ws base), groups-few n T ws base short)
 
 -- and none of a log's listing; there are at most 4,657.
 pub record Short (ls : List (List ℕ)) : Type 0 where
@@ -122,7 +123,7 @@ lines-short log = go (judge log) refl
     go (refused number offset) e = record { each = one number offset e; few = omega arith }
     go (success rs) e =
         let limits = limits-of (accepted-of 0 log rs e .limits) in
-        record { each = report-line-short (badgesOf rs) (ticksOf rs) (dayOf rs) (limits .few) (limits .short); few = report-lines-few (badgesOf rs) (ticksOf rs) (dayOf rs) (limits .few) (limits .short) }
+        record { each = report-line-short (badgesOf rs) (ticksOf rs) (dayOf rs) (full (badgesOf rs)) (limits .few) (limits .short); few = report-lines-few (badgesOf rs) (ticksOf rs) (dayOf rs) (full (badgesOf rs)) (limits .few) (limits .short) }
 
 -- The listing in pieces. Whatever words, 6,144 or more, and whatever buffer of 60,538 bytes or more were lent to prepare: the pieces that lines gives of
 -- what it left, in buffers of 320 bytes or more each, 4,657 buffers or more, are the log's listing.

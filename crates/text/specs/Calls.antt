@@ -2,6 +2,7 @@
 use mathlib.Core.List.{List, [], _∷_}
 use Prim.Native.Nat.{ℕ, _-_, _/_}
 use lib.ListN.{getD, drop}
+use Rattle.sets.specs.Sets.{full}
 use Rattle.records.specs.Outcomes.{Outcome, refused, success}
 use Rattle.records.specs.Verdicts.{Values}
 use Rattle.days.specs.Calls.{readOf}
@@ -11,7 +12,7 @@ use Rattle.spans.specs.Encoding.{decodeCores}
 use Rattle.groups.specs.Calls.{reportOf}
 use Rattle.text.specs.Listing.{refusalLine, reportLines}
 
--- prepare: read the log into the words, and put the plain report of its day into the buffer
+-- prepare: read the log into the words, and put the plain report of its day, with all n badges under review, into the buffer
 pub record Prepared : Type 0 where
   pub answer : Outcome ℕ
   pub words : List ℕ
@@ -19,7 +20,7 @@ pub record Prepared : Type 0 where
 
 unfoldable pub reported : Outcome Values → List ℕ → List ℕ → Delivered
 reported (refused number offset) words report = record { answer = refused number offset; buffer = report }
-reported (success v) words report = reportOf (v .badges) (v .ticks) words plain report
+reported (success v) words report = reportOf (v .badges) (v .ticks) words (full (v .badges)) plain report
 
 unfoldable pub prepareOf : List ℕ → List ℕ → List ℕ → Prepared
 prepareOf log words report = record {

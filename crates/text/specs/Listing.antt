@@ -4,7 +4,7 @@ use mathlib.Core.List.{List, [], _∷_, _++_, map}
 use Prim.Native.Nat.{ℕ}
 use lib.ListN.{length}
 use Rattle.sets.specs.Ascii.{ascii}
-use Rattle.sets.specs.Sets.{has}
+use Rattle.sets.specs.Sets.{has, full}
 use Rattle.sets.specs.Members.{capacity}
 use Rattle.sets.specs.Tables.{concatBelow, keepIf}
 use Rattle.records.specs.declared.record.Record.{Record}
@@ -40,10 +40,10 @@ refusalLine number offset = field (ascii "refused ") number ++ (field (ascii " a
 unfoldable pub reportLines : ℕ → ℕ → List SpanCore → List (List ℕ)
 reportLines n T groups = headLine n T (length groups) ∷ map groupLine groups
 
--- the lines of a log, by what judging it comes to
+-- the lines of a log, by what judging it comes to: the groups are those of all n badges
 unfoldable pub judgedLines : Outcome (List Record) → List (List ℕ)
 judgedLines (refused number offset) = refusalLine number offset ∷ []
-judgedLines (success rs) = reportLines (badgesOf rs) (ticksOf rs) (groupsOf (badgesOf rs) (ticksOf rs) (dayOf rs))
+judgedLines (success rs) = reportLines (badgesOf rs) (ticksOf rs) (groupsOf (badgesOf rs) (ticksOf rs) (dayOf rs) (full (badgesOf rs)))
 
 -- lines end to end, and the listing of a log: its text in bytes
 unfoldable pub joined : List (List ℕ) → List ℕ

@@ -8,8 +8,9 @@ use groups::Written;
 use groups::report;
 use log::Verdict;
 use log::read;
+use sets::BadgeSet;
 
-// Reads a log into the words that are lent, and puts the plain report of its day's groups into the buffer that is lent. Answers the number of the
+// Reads a log into the words that are lent, and puts the plain report of its day's groups, with all badges under review, into the buffer that is lent. Answers the number of the
 // report's bytes. Refused by what read and report refuse by, and then the buffer is as it was. 6,144 words and 60,538 bytes are enough for
 // every log.
 pub fn prepare(log: &[u8], words: &mut [u64], buffer: &mut [u8]) -> Written
@@ -23,6 +24,13 @@ pub fn prepare(log: &[u8], words: &mut [u64], buffer: &mut [u8]) -> Written
             badges,
             ticks,
             contacts: _,
-        } => report(words, badges, ticks, Thresholds::PLAIN, buffer),
+        } => report(
+            words,
+            badges,
+            ticks,
+            BadgeSet::full(badges),
+            Thresholds::PLAIN,
+            buffer,
+        ),
     }
 }

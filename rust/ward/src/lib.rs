@@ -8,7 +8,7 @@
 //! assert_eq!((day.badges, day.ticks, day.contacts), (3, 2, 1));
 //!
 //! let mut report = [0u8; ward::REPORT_BYTES];
-//! let size = ward::report(&words, day.badges, day.ticks, ward::Thresholds::default(), &mut report)?;
+//! let size = ward::report(&words, day.badges, day.ticks, ward::all_badges(day.badges), ward::Thresholds::default(), &mut report)?;
 //! assert_eq!(&report[..4], b"RH\x03\x02");
 //! assert_eq!(&report[4..17], b"GR\x01\x00\x01\x03\x00\x00\x00\x00\x00\x00\x00");
 //! assert_eq!(size, 23);
@@ -66,6 +66,17 @@ impl Default for Thresholds {
     }
 }
 
+/// The set of all badges of a day, to review them all: bit u for badge u. 64 badges and more give every bit.
+///
+/// ```
+/// assert_eq!([0, 1, 5].map(ward::all_badges), [0, 0b1, 0b11111]);
+/// assert_eq!([64, 65, usize::MAX].map(ward::all_badges), [u64::MAX; 3]);
+/// assert_eq!(ward::all_badges(5) & !(1 << 3), 0b10111); // all of five badges but badge 3
+/// ```
+pub const fn all_badges(badges: usize) -> u64 {
+    if badges < 64 { (1 << badges) - 1 } else { u64::MAX }
+}
+
 type Answer = [u64; 5];
 
 extern "C" {
@@ -89,6 +100,7 @@ extern "C" {
         words_len: usize,
         badges: usize,
         ticks: usize,
+        review: u64,
         first: usize,
         last: usize,
         out: *mut u8,
@@ -100,6 +112,7 @@ extern "C" {
         words_len: usize,
         badges: usize,
         ticks: usize,
+        review: u64,
         least_ticks: usize,
         least_order: usize,
         least_members: usize,
@@ -112,6 +125,7 @@ extern "C" {
         words_len: usize,
         badges: usize,
         ticks: usize,
+        review: u64,
         query: u64,
         parts: usize,
         out: *mut u8,
@@ -212,71 +226,94 @@ pub fn write(words: &[u64], badges: usize, ticks: usize, out: &mut [u8]) -> Resu
     written(answer)
 }
 
-/// Puts the core number of each badge on a span into a buffer, one byte a badge, and gives the number of badges.
+/// Puts the core number of each badge on a span into a buffer, one byte a badge, and gives the number of badges. The cores are those among the badges
+/// under review, a set with bit u for badge u; a badge that is not under review has 0.
 ///
 /// ```
-/// let words = [0b10, 0b01]; // two badges in contact, in one tick
+/// let words = [0b110, 0b101, 0b011]; // three badges in contact, in one tick
 /// let mut numbers = [0u8; ward::CORE_NUMBERS];
-/// assert_eq!(ward::core_numbers(&words, 2, 1, 0, 0, &mut numbers), Ok(2));
-/// assert_eq!(numbers[..2], [1, 1]);
+/// assert_eq!(ward::core_numbers(&words, 3, 1, ward::all_badges(3), 0, 0, &mut numbers), Ok(3));
+/// assert_eq!(numbers[..3], [2, 2, 2]);
+///
+/// ward::core_numbers(&words, 3, 1, 0b101, 0, 0, &mut numbers)?; // without badge 1
+/// assert_eq!(numbers[..3], [1, 0, 1]);
+///
+/// let refused = ward::core_numbers(&words, 3, 1, 0b1101, 0, 0, &mut numbers).unwrap_err();
+/// assert_eq!(refused.refusal, ward::Refusal::InvalidReview);
+/// assert_eq!(refused.to_string(), "refused 20 at 0: no badge is under review, or one that the day does not have");
+/// # Ok::<(), ward::Refused>(())
 /// ```
-pub fn core_numbers(words: &[u64], badges: usize, ticks: usize, first: usize, last: usize, out: &mut [u8]) -> Result<usize, Refused> {
+pub fn core_numbers(words: &[u64], badges: usize, ticks: usize, review: u64, first: usize, last: usize, out: &mut [u8]) -> Result<usize, Refused> {
     let mut answer = [0; 5];
-    unsafe { ward_core_numbers(words.as_ptr(), words.len(), badges, ticks, first, last, out.as_mut_ptr(), out.len(), &mut answer) };
+    unsafe { ward_core_numbers(words.as_ptr(), words.len(), badges, ticks, review, first, last, out.as_mut_ptr(), out.len(), &mut answer) };
     written(answer)
 }
 
-/// Puts the report of a day's groups into a buffer, of those that meet the thresholds, and gives the number of bytes.
+/// Puts the report of a day's groups into a buffer, of those that meet the thresholds, and gives the number of bytes. The groups are the maximal cores
+/// among the badges under review, a set with bit u for badge u, and which are maximal is judged among these cores alone.
 ///
 /// ```
 /// let words = [0b110, 0b101, 0b011, 0b010, 0b001, 0]; // three badges in contact, and in the next tick two of them
-/// let mut report = [0u8; ward::REPORT_BYTES];
-/// let size = ward::report(&words, 3, 2, ward::Thresholds::default(), &mut report)?;
+/// let (everyone, mut report) = (ward::all_badges(3), [0u8; ward::REPORT_BYTES]);
+/// let size = ward::report(&words, 3, 2, everyone, ward::Thresholds::default(), &mut report)?;
 /// assert_eq!(&report[4..17], b"GR\x02\x00\x00\x07\x00\x00\x00\x00\x00\x00\x00"); // order 2, tick 0 to 0, all three
 /// assert_eq!(&report[17..30], b"GR\x01\x00\x01\x03\x00\x00\x00\x00\x00\x00\x00"); // order 1, ticks 0 to 1, the two
 /// assert_eq!(size, 36);
 ///
 /// let lasting = ward::Thresholds { ticks: 2, ..Default::default() };
-/// let size = ward::report(&words, 3, 2, lasting, &mut report)?;
+/// let size = ward::report(&words, 3, 2, everyone, lasting, &mut report)?;
 /// assert_eq!(&report[..size], b"RH\x03\x02GR\x01\x00\x01\x03\x00\x00\x00\x00\x00\x00\x00ED\x01\x00\x00\x00");
 ///
+/// // without badge 0 the other two are a group of tick 0, which the report of all three does not have
+/// let size = ward::report(&words, 3, 2, 0b110, ward::Thresholds::default(), &mut report)?;
+/// assert_eq!(&report[..size], b"RH\x03\x02GR\x01\x00\x00\x06\x00\x00\x00\x00\x00\x00\x00ED\x01\x00\x00\x00");
+///
 /// let alone = ward::Thresholds { members: 1, ..Default::default() };
-/// let refused = ward::report(&words, 3, 2, alone, &mut report).unwrap_err();
+/// let refused = ward::report(&words, 3, 2, everyone, alone, &mut report).unwrap_err();
 /// assert_eq!(refused.refusal, ward::Refusal::ThresholdOutOfRange);
 /// assert_eq!(refused.to_string(), "refused 17 at 0: least ticks not 1 to 96, least order not 1 to 63, or least members not 2 to 64");
+/// let refused = ward::report(&words, 3, 2, 0, alone, &mut report).unwrap_err();
+/// assert_eq!(refused.refusal, ward::Refusal::InvalidReview); // judged before the thresholds
 /// # Ok::<(), ward::Refused>(())
 /// ```
-pub fn report(words: &[u64], badges: usize, ticks: usize, thresholds: Thresholds, out: &mut [u8]) -> Result<usize, Refused> {
+pub fn report(words: &[u64], badges: usize, ticks: usize, review: u64, thresholds: Thresholds, out: &mut [u8]) -> Result<usize, Refused> {
     let mut answer = [0; 5];
     let Thresholds { ticks: least_ticks, order, members } = thresholds;
-    unsafe { ward_report(words.as_ptr(), words.len(), badges, ticks, least_ticks, order, members, out.as_mut_ptr(), out.len(), &mut answer) };
+    unsafe { ward_report(words.as_ptr(), words.len(), badges, ticks, review, least_ticks, order, members, out.as_mut_ptr(), out.len(), &mut answer) };
     written(answer)
 }
 
-/// Puts the plan of a shift around a query, a set with bit u for badge u, into a buffer, and gives the number of bytes. Of the cuttings with the greatest
-/// sum of scores it is the one whose list of last ticks comes first, compared number by number.
+/// Puts the plan of a shift around a query into a buffer, and gives the number of bytes. Of the cuttings with the greatest sum of scores it is the one
+/// whose list of last ticks comes first, compared number by number. The badges under review and the query are sets with bit u for badge u: the scores are
+/// those of cores among the reviewed badges, of which the query must be, and a part of score 0 shows them all.
 ///
 /// ```
 /// let words = [0b10, 0b01];
-/// let mut plan = [0u8; ward::PLAN_BYTES];
-/// let size = ward::plan(&words, 2, 1, 0b01, 1, &mut plan)?;
+/// let (everyone, mut plan) = (ward::all_badges(2), [0u8; ward::PLAN_BYTES]);
+/// let size = ward::plan(&words, 2, 1, everyone, 0b01, 1, &mut plan)?;
 /// assert_eq!(&plan[..13], b"PH\x02\x01\x01\x01\x00\x00\x00\x00\x00\x00\x00"); // one part, around badge 0
 /// assert_eq!(&plan[13..26], b"PT\x01\x00\x00\x03\x00\x00\x00\x00\x00\x00\x00"); // score 1, tick 0 to 0, both badges
 /// assert_eq!(size, 32);
 ///
+/// ward::plan(&words, 2, 1, 0b01, 0b01, 1, &mut plan)?; // without badge 1
+/// assert_eq!(&plan[13..26], b"PT\x00\x00\x00\x01\x00\x00\x00\x00\x00\x00\x00"); // score 0, tick 0 to 0, badge 0 as the one under review
+///
 /// // together in all of three ticks: a cut after tick 0 and one after tick 1 have the same sum, and the first is taken
-/// ward::plan(&[0b10, 0b01, 0b10, 0b01, 0b10, 0b01], 2, 3, 0b01, 2, &mut plan)?;
+/// ward::plan(&[0b10, 0b01, 0b10, 0b01, 0b10, 0b01], 2, 3, everyone, 0b01, 2, &mut plan)?;
 /// assert_eq!(plan[13..18], *b"PT\x01\x00\x00"); // ticks 0 to 0
 /// assert_eq!(plan[26..31], *b"PT\x01\x01\x02"); // ticks 1 to 2
 ///
-/// let refused = ward::plan(&words, 2, 1, 0b100, 1, &mut plan).unwrap_err();
+/// let refused = ward::plan(&words, 2, 1, everyone, 0b100, 1, &mut plan).unwrap_err();
 /// assert_eq!(refused.refusal, ward::Refusal::ForeignQuery);
 /// assert_eq!(refused.to_string(), "refused 13 at 0: the query has a badge that the day does not have");
+/// let refused = ward::plan(&words, 2, 1, 0b01, 0b11, 1, &mut plan).unwrap_err();
+/// assert_eq!(refused.refusal, ward::Refusal::QueryNotReviewed);
+/// assert_eq!(refused.to_string(), "refused 21 at 0: the query has a badge that is not under review");
 /// # Ok::<(), ward::Refused>(())
 /// ```
-pub fn plan(words: &[u64], badges: usize, ticks: usize, query: u64, parts: usize, out: &mut [u8]) -> Result<usize, Refused> {
+pub fn plan(words: &[u64], badges: usize, ticks: usize, review: u64, query: u64, parts: usize, out: &mut [u8]) -> Result<usize, Refused> {
     let mut answer = [0; 5];
-    unsafe { ward_plan(words.as_ptr(), words.len(), badges, ticks, query, parts, out.as_mut_ptr(), out.len(), &mut answer) };
+    unsafe { ward_plan(words.as_ptr(), words.len(), badges, ticks, review, query, parts, out.as_mut_ptr(), out.len(), &mut answer) };
     written(answer)
 }
 

@@ -3,16 +3,16 @@
 use std::error::Error;
 use std::fmt;
 
-/// A refusal, in the order of its numbers: 1 to 15, and 17 to 19. 16 is unused, and no refusal will ever get it.
+/// A refusal, in the order of its numbers: 1 to 15, and 17 to 21. 16 is unused, and no refusal will ever get it.
 ///
 /// ```
 /// use ward::Refusal;
 /// assert_eq!(Refusal::NotADay.number(), 11);
 /// assert_eq!(Refusal::from_number(11), Some(Refusal::NotADay));
-/// for number in (1..=15).chain(17..=19) {
+/// for number in (1..=15).chain(17..=21) {
 ///     assert_eq!(Refusal::from_number(number).map(|refusal| refusal.number() as u64), Some(number));
 /// }
-/// assert_eq!([0, 16, 20].map(Refusal::from_number), [None; 3]);
+/// assert_eq!([0, 16, 22].map(Refusal::from_number), [None; 3]);
 /// ```
 #[derive(Clone, Copy, Debug, PartialEq, Eq)]
 pub enum Refusal {
@@ -34,11 +34,13 @@ pub enum Refusal {
     ThresholdOutOfRange = 17,
     InvalidReceivers,
     DifferentShifts,
+    InvalidReview,
+    QueryNotReviewed,
 }
 
 use Refusal::*;
 
-const ALL: [(Refusal, &str); 18] = [
+const ALL: [(Refusal, &str); 20] = [
     (CutShort, "the bytes end inside a record, or where one must start"),
     (WrongMark, "the mark is not that of a record that may stand there"),
     (HeaderOutOfLimits, "badges not 1 to 64, or ticks not 1 to 96"),
@@ -57,10 +59,12 @@ const ALL: [(Refusal, &str); 18] = [
     (ThresholdOutOfRange, "least ticks not 1 to 96, least order not 1 to 63, or least members not 2 to 64"),
     (InvalidReceivers, "not 2 to 4 logs, a quorum that is not 1 to their number, or lengths that do not add up to the bytes"),
     (DifferentShifts, "the badges or ticks of a log differ from the first log's"),
+    (InvalidReview, "no badge is under review, or one that the day does not have"),
+    (QueryNotReviewed, "the query has a badge that is not under review"),
 ];
 
 impl Refusal {
-    /// The refusal of a number; none for 0, which is success, for 16, and for a number above 19.
+    /// The refusal of a number; none for 0, which is success, for 16, and for a number above 21.
     pub fn from_number(number: u64) -> Option<Refusal> {
         ALL.iter().map(|row| row.0).find(|refusal| *refusal as u64 == number)
     }

@@ -1,4 +1,4 @@
--- ward_plan meets its contract: it leaves what plan leaves, and its answer is plan's, of the query as a set.
+-- ward_plan meets its contract: it leaves what plan leaves, and its answer is plan's, of the badges under review and the query as sets.
 use mathlib.Core.Path.{ap, _∙_}
 use borrow.Author.Needs.{needs}
 use Rattle.ward.specs.Answers.{writtenAnswer}
@@ -7,6 +7,9 @@ use Rattle.ward.proofs.ward_plan.Tie as tie
 
 from-word-requires : tie.Need-from-word-requires
 from-word-requires c κs = search needs
+
+from-word-requires-2 : tie.Need-from-word-requires-2
+from-word-requires-2 c κs = search needs
 
 plan-requires : tie.Need-plan-requires
 plan-requires c κs = search needs
@@ -19,10 +22,10 @@ same-length c = search needs
 
 returns : tie.Need-returns
 returns c =
-    let q = c .before .before .before .before .before .from-word .ensures in
-    let p = rw q at (c .before .before .before .plan .ensures) in
+    let q = c .before .before .before .before .before in
+    let p = rw (q .before .from-word .ensures, q .from-word2 .ensures) at (c .before .before .before .plan .ensures) in
     (c .group-answer .ensures ∙ ap writtenAnswer (p .0), (p .1 .0, rw (p .0) at (p .1 .1)))
 
 pub ward-plan-spec : {M : Type 1} → statement M
 ward-plan-spec =
-    tie.close (tie.spec from-word-requires plan-requires group-answer-requires same-length returns)
+    tie.close (tie.spec from-word-requires from-word-requires-2 plan-requires group-answer-requires same-length returns)

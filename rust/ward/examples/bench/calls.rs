@@ -1,4 +1,4 @@
-//! The calls that are measured, by name.
+//! The calls that are measured, by name: with all badges under review, but for one report.
 
 use crate::baselines::{algorithm2, bitset_plan, bitsets, lists};
 use crate::days::Day;
@@ -8,26 +8,28 @@ pub type Report = fn(&[u64], usize, usize, &mut [u8]) -> Option<usize>;
 pub type Plan = fn(&[u64], usize, usize, u64, usize, &mut [u8]) -> Option<usize>;
 
 pub fn engine_report(words: &[u64], n: usize, ticks: usize, out: &mut [u8]) -> Option<usize> {
-    ward::report(words, n, ticks, ward::Thresholds::default(), out).ok()
+    ward::report(words, n, ticks, ward::all_badges(n), ward::Thresholds::default(), out).ok()
 }
 
 /// The engine's report of the groups that last 4 ticks or more, are of order 2 or more and have 3 members or more.
 fn filtered(words: &[u64], n: usize, ticks: usize, out: &mut [u8]) -> Option<usize> {
-    ward::report(words, n, ticks, ward::Thresholds { ticks: 4, order: 2, members: 3 }, out).ok()
+    ward::report(words, n, ticks, ward::all_badges(n), ward::Thresholds { ticks: 4, order: 2, members: 3 }, out).ok()
+}
+
+/// The engine's report with half of the badges under review, the lower ones.
+fn half(words: &[u64], n: usize, ticks: usize, out: &mut [u8]) -> Option<usize> {
+    ward::report(words, n, ticks, ward::all_badges(n.div_ceil(2)), ward::Thresholds::default(), out).ok()
 }
 
 fn engine_plan(words: &[u64], n: usize, ticks: usize, query: u64, parts: usize, out: &mut [u8]) -> Option<usize> {
-    ward::plan(words, n, ticks, query, parts, out).ok()
+    ward::plan(words, n, ticks, ward::all_badges(n), query, parts, out).ok()
 }
 
-/// The ways to make the plain report, and the one with fewer groups.
-pub const REPORTS: [(&str, Report); 5] = [
-    ("engine", engine_report),
-    ("lists", lists::report),
-    ("algorithm2", algorithm2::report),
-    ("bitsets", bitsets::report),
-    ("filtered", filtered),
-];
+/// The ways to make the plain report.
+pub const REPORTS: [(&str, Report); 4] =
+    [("engine", engine_report), ("lists", lists::report), ("algorithm2", algorithm2::report), ("bitsets", bitsets::report)];
+/// The engine's reports of less than that.
+pub const PARTIAL: [(&str, Report); 2] = [("filtered", filtered), ("half", half)];
 /// The ways to make a plan; the number of its parts follows in the call's name, as in plan8.
 pub const PLANS: [(&str, Plan); 2] = [("plan", engine_plan), ("bitplan", bitset_plan::plan)];
 pub const PARTS: [usize; 2] = [8, 32];
@@ -46,7 +48,7 @@ pub fn ready<'a>(name: &str, day: &'a Day) -> Option<Call<'a>> {
 /// The call of a name, if it is one of those that need no log.
 fn made_of_words<'a>(name: &str, day: &'a Day) -> Option<Call<'a>> {
     let &Day { badges, ticks, ref words } = day;
-    if let Some(&(_, report)) = REPORTS.iter().find(|r| r.0 == name) {
+    if let Some(&(_, report)) = REPORTS.iter().chain(&PARTIAL).find(|r| r.0 == name) {
         let mut out = vec![0; ward::REPORT_BYTES];
         return Some(Box::new(move || report(words, badges, ticks, &mut out).expect("a report")));
     }
@@ -56,8 +58,9 @@ fn made_of_words<'a>(name: &str, day: &'a Day) -> Option<Call<'a>> {
             return Some(Box::new(move || plan(words, badges, ticks, QUERY, parts, &mut out).expect("as many parts as ticks or fewer")));
         }
     }
-    let mut out = vec![0; ward::CORE_NUMBERS];
-    (name == "numbers").then(|| -> Call { Box::new(move || ward::core_numbers(words, badges, ticks, 0, 3, &mut out).expect("four ticks")) })
+    let (everyone, mut out) = (ward::all_badges(badges), vec![0; ward::CORE_NUMBERS]);
+    (name == "numbers")
+        .then(|| -> Call { Box::new(move || ward::core_numbers(words, badges, ticks, everyone, 0, 3, &mut out).expect("four ticks")) })
 }
 
 /// The call of a name that is made on the day's log, if there is one, or writes it.

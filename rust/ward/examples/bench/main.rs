@@ -1,8 +1,8 @@
-//! Compares the plain report with baselines in Rust and with the engine's own report under thresholds, and the plan around badges 0 and 1 in 8 and in 32
-//! parts with a baseline; and measures the core numbers of ticks 0 to 3, write, read and tidy of the day's log, and the join of the logs of 2 and of 4
-//! receivers at quorum 2 beside the reads of the same logs, one after the other, on days of 64 badges and 96 ticks from a fixed generator. Medians of
-//! wall time, and ratios, in one run. Every baseline does the checks of its call and the encoding, as the engine does, and its bytes are compared with
-//! the engine's first. Buffers are not cleared between calls.
+//! Compares the plain report with baselines in Rust, with the engine's own report under thresholds and with the one of half of the badges; the plan
+//! around badges 0 and 1 in 8 and in 32 parts with a baseline; and measures the core numbers of ticks 0 to 3, write, read and tidy of the day's log, and
+//! the join of the logs of 2 and of 4 receivers at quorum 2 beside the reads of the same logs, one after the other, on days of 64 badges and 96 ticks from
+//! a fixed generator. Medians of wall time, and ratios, in one run. Every baseline does the checks of its call and the encoding, as the engine does, and
+//! its bytes are compared with the engine's first. Buffers are not cleared between calls.
 //!
 //!     cargo run --offline --release --example bench                the tables
 //!     cargo run --offline --release --example bench -- W C         one call, for an instruction count: workload W, call C, as in random plan8
@@ -15,7 +15,7 @@ mod days;
 mod random;
 mod receivers;
 
-use calls::{ready, Call, OTHERS, PARTS, PLANS, QUERY, REPORTS};
+use calls::{ready, Call, OTHERS, PARTIAL, PARTS, PLANS, QUERY, REPORTS};
 use days::Day;
 use std::time::Instant;
 
@@ -43,7 +43,7 @@ fn median(rounds: usize, mut call: Call) -> f64 {
 fn groups(name: &str, day: &Day) -> usize {
     let mut expected = vec![0; ward::REPORT_BYTES];
     let size = calls::engine_report(&day.words, day.badges, day.ticks, &mut expected).expect("a day");
-    for (way, report) in REPORTS.into_iter().filter(|r| r.0 != "filtered") {
+    for (way, report) in REPORTS {
         let mut out = vec![0; ward::REPORT_BYTES];
         assert_eq!(report(&day.words, day.badges, day.ticks, &mut out), Some(size), "{name}: {way}");
         assert!(out == expected, "{name}: {way}");
@@ -63,15 +63,16 @@ fn compare_plans(name: &str, day: &Day, parts: usize) {
 
 fn report_table() {
     print!("{:<12}{:>8}", "report, µs", "groups");
-    REPORTS.iter().for_each(|r| print!("{:>12}", r.0));
-    println!("{:>16}{:>14}{:>17}", "engine/bitsets", "lists/engine", "filtered/engine");
+    REPORTS.iter().chain(&PARTIAL).for_each(|r| print!("{:>12}", r.0));
+    println!("{:>16}{:>14}{:>17}{:>13}", "engine/bitsets", "lists/engine", "filtered/engine", "half/engine");
     for name in days::NAMES {
         let day = Day::named(name);
         print!("{name:<12}{:>8}", groups(name, &day));
-        let times = REPORTS.map(|(way, _)| median(if way == "lists" { 5 } else { 15 }, ready(way, &day).expect("a report")));
-        times.iter().for_each(|time| print!("{time:>12.0}"));
-        let [engine, lists, _, bitsets, filtered] = times;
-        println!("{:>16.2}{:>14.2}{:>17.2}", engine / bitsets, lists / engine, filtered / engine);
+        let time = |(way, _)| median(if way == "lists" { 5 } else { 15 }, ready(way, &day).expect("a report"));
+        let (plain, partial) = (REPORTS.map(time), PARTIAL.map(time));
+        plain.iter().chain(&partial).for_each(|time| print!("{time:>12.0}"));
+        let ([engine, lists, _, bitsets], [filtered, half]) = (plain, partial);
+        println!("{:>16.2}{:>14.2}{:>17.2}{:>13.2}", engine / bitsets, lists / engine, filtered / engine, half / engine);
     }
 }
 

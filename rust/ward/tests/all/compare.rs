@@ -1,6 +1,6 @@
 //! Every call against the model: random inputs, long and short, valid and damaged, all sizes.
 
-use crate::model::{self, PLAIN};
+use crate::model::{self, PLAIN, full};
 use crate::support::calls::{day_of, join, read, tidy};
 use crate::support::days::random_day;
 use crate::support::handed::Handed;
@@ -8,6 +8,7 @@ use crate::support::logs::{damage, long, random_log};
 use crate::support::random::Random;
 use crate::support::receivers::{damage_one, end_to_end, join_all, random_receivers, resize_one};
 use crate::support::seen::all_seen;
+use crate::support::sets::{random_query, random_review, reviewable};
 use crate::thresholds::random_least;
 use crate::tidying::settles;
 
@@ -144,8 +145,8 @@ fn tick(random: &mut Random, ticks: usize) -> usize {
 }
 
 /// Every call on words, into buffers of about the exact size, and the report into larger ones.
-fn compare_words(random: &mut Random, words: &[u64], n: usize, ticks: usize) {
-    let day = Handed::new(words, n, ticks);
+fn compare_words(random: &mut Random, words: &[u64], n: usize, ticks: usize, review: u64) {
+    let day = Handed::reviewing(words, n, ticks, review);
     let mut room = |answer: Result<Vec<u8>, _>| near(random, answer.map_or(40, |bytes| bytes.len()));
     _ = day.write(room(day.log()));
     _ = day.report(room(day.groups(PLAIN)));
@@ -158,16 +159,9 @@ fn compare_words(random: &mut Random, words: &[u64], n: usize, ticks: usize) {
     let (first, last) = (tick(random, ticks), tick(random, ticks));
     let room = near(random, n.min(64));
     _ = day.core_numbers(first, last, room);
-    let (query, parts) = (random_query(random, n), random_parts(random, ticks));
+    let (query, parts) = (random_query(random, n, review), random_parts(random, ticks));
     let room = near(random, 19 + 13 * parts.min(96));
     _ = day.plan(query, parts, room);
-}
-
-/// Of the n badges mostly, often few of them, and sometimes none.
-fn random_query(random: &mut Random, n: usize) -> u64 {
-    let badges = if n < 64 && random.below(8) != 0 { (1 << n) - 1 } else { u64::MAX };
-    let query = (0..random.below(5)).fold(badges, |query, _| query & random.next());
-    if random.below(8) == 0 { 0 } else { query }
 }
 
 /// Up to one more than there are ticks.
@@ -175,7 +169,8 @@ fn random_parts(random: &mut Random, ticks: usize) -> usize {
     if random.below(32) == 0 { usize::MAX } else { random.below(ticks.min(96) + 2) }
 }
 
-/// A random day, with words after it; in half of the cases damaged, or handed over with another size or too few words.
+/// A random day, with words after it; in half of the cases damaged, or handed over with another size or too few words. All badges are under review in
+/// half of the cases, and else any.
 fn compare_random_day(random: &mut Random, n: usize, ticks: usize) {
     let (density, keep) = (random.below(101), random.below(101));
     let mut words = random_day(random, n, ticks, density, keep).words();
@@ -191,7 +186,8 @@ fn compare_random_day(random: &mut Random, n: usize, ticks: usize) {
         3 => handed_ticks = [0, 97, usize::MAX, ticks + 1][random.below(4)],
         _ => {}
     }
-    compare_words(random, &words, handed_n, handed_ticks);
+    let review = if random.below(2) == 0 { full(handed_n.min(64)) } else { random_review(random, handed_n) };
+    compare_words(random, &words, handed_n, handed_ticks, review);
 }
 
 #[test]
@@ -202,9 +198,9 @@ fn days() {
         compare_random_day(&mut random, n, ticks);
     }
     all_seen("write", &[8, 9, 10, 11]);
-    all_seen("core numbers", &[8, 9, 10, 11, 12]);
-    all_seen("report", &[8, 9, 10, 11, 17]);
-    all_seen("plan", &[8, 9, 10, 11, 13, 14]);
+    all_seen("core numbers", &[8, 9, 10, 11, 12, 20]);
+    all_seen("report", &[8, 9, 10, 11, 17, 20]);
+    all_seen("plan", &[8, 9, 10, 11, 13, 14, 20, 21]);
 }
 
 /// Every number of ticks and every number of badges, in two pairings.
@@ -218,11 +214,14 @@ fn days_of_all_sizes() {
     }
 }
 
+/// With all badges under review, and with some.
 #[test]
 fn largest_days() {
     let mut random = Random(6);
     for (density, keep) in [(1, 0), (5, 80), (50, 0), (90, 80), (100, 100), (0, 0)] {
         let words = random_day(&mut random, 64, 96, density, keep).words();
-        compare_words(&mut random, &words, 64, 96);
+        compare_words(&mut random, &words, 64, 96, u64::MAX);
+        let review = reviewable(&mut random, 64);
+        compare_words(&mut random, &words, 64, 96, review);
     }
 }

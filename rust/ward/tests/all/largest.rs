@@ -1,6 +1,6 @@
 //! The largest days, of 64 badges and 96 ticks, whose answers a rule gives; and days without contacts.
 
-use crate::model;
+use crate::model::{self, full};
 use crate::support::days::{core_with_one_away, day_by, one_away};
 use crate::support::handed::Handed;
 use crate::support::lent::Lent;
@@ -81,8 +81,8 @@ fn without_contacts() {
     for n in 1..=64 {
         for ticks in 1..=96 {
             let (mut numbers, mut report, mut log) = (Lent::room(n), Lent::room(10), Lent::room(10));
-            assert_eq!(ward::core_numbers(&words, n, ticks, 0, ticks - 1, numbers.slice()), Ok(n));
-            assert_eq!(ward::report(&words, n, ticks, ward::Thresholds::default(), report.slice()), Ok(10));
+            assert_eq!(ward::core_numbers(&words, n, ticks, full(n), 0, ticks - 1, numbers.slice()), Ok(n));
+            assert_eq!(ward::report(&words, n, ticks, full(n), ward::Thresholds::default(), report.slice()), Ok(10));
             assert_eq!(ward::write(&words, n, ticks, log.slice()), Ok(10));
             numbers.holds(&vec![0; n]);
             report.holds(&model::report_bytes(n, ticks, &[]));

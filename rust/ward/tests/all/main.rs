@@ -17,6 +17,7 @@ mod pieces;
 mod plans;
 mod refusals;
 mod reports;
+mod reviews;
 mod rows;
 mod thresholds;
 mod tidying;

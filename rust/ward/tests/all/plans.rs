@@ -1,6 +1,6 @@
 //! The plan: D1, whose bytes, sums and ends are written by hand; and days on which several cuttings have the greatest sum.
 
-use crate::model::Cores;
+use crate::model::{Cores, full};
 use crate::support::d1::{d1, turned};
 use crate::support::days::random_day;
 use crate::support::handed::Handed;
@@ -111,9 +111,9 @@ fn the_first_of_the_best() {
     for _ in 0..4000 {
         let (n, ticks) = (4 + random.below(4), 7 + random.below(4));
         let day = random_day(&mut random, n, ticks, 70, 50);
-        let (query, h) = (random.next() & random.next() & random.next() & ((1 << n) - 1), 3 + random.below(ticks - 4));
+        let (query, h) = (random.next() & random.next() & random.next() & full(n), 3 + random.below(ticks - 4));
         let plan = Handed::new(&day.words(), n, ticks).plan(query, h, 19 + 13 * h).expect("a plan");
-        let best = Cores::of(&day).all_best(query, h);
+        let best = Cores::of(&day, full(n)).all_best(query, h);
         let from_the_end = best.iter().min_by_key(|ends| ends.iter().rev().collect::<Vec<_>>());
         assert_eq!(Some(&ends(&plan)), best.iter().min());
         not_last += usize::from(Some(&ends(&plan)) != best.iter().max());

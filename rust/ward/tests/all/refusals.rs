@@ -12,10 +12,22 @@ const HUGE: usize = usize::MAX;
 type Turned = Option<(usize, usize)>;
 const NONE: Turned = None;
 
-/// So many of D1's words, with a bit turned over, as a day of n and T.
-fn broken(lent: usize, bit: Turned, n: usize, ticks: usize) -> Handed {
+/// So many of D1's words, with a bit turned over, as a day of n and T, with these badges under review.
+fn broken(lent: usize, bit: Turned, n: usize, ticks: usize, review: u64) -> Handed {
     let words = bit.map_or(WORDS, |(place, v)| turned(place, v));
-    Handed::new(&words[..lent], n, ticks)
+    Handed::reviewing(&words[..lent], n, ticks, review)
+}
+
+/// D1's badges, all and some.
+const ALL: u64 = 0b1111;
+const SOME: u64 = 0b0110;
+
+/// What cannot be reviewed of D1: no badge, and badges that it does not have, alone and beside others.
+const NOT_OF_D1: [u64; 6] = [0, 1 << 4, 1 << 63, ALL | 1 << 4, SOME | 1 << 63, u64::MAX];
+
+/// What such a set is refused by, where all badges under review would be refused by a number: 10, 8 and 11 are judged before it, all others after it.
+fn before_20(number: u8) -> u8 {
+    if [10, 8, 11].contains(&number) { number } else { 20 }
 }
 
 /// Core numbers: how many words are lent, the bit turned over, n, T, first tick, last tick, how many bytes are lent; the number. One rule is broken.
@@ -80,9 +92,18 @@ const NUMBERS_SEVERAL: &[NumbersCase] = &[
 #[test]
 fn core_numbers() {
     for &(lent, bit, n, ticks, first, last, room, number) in NUMBERS_ONE_BY_ONE.iter().chain(NUMBERS_SEVERAL) {
-        assert_eq!(broken(lent, bit, n, ticks).core_numbers(first, last, room), Err((number, 0)));
+        let numbers = |review| broken(lent, bit, n, ticks, review).core_numbers(first, last, room);
+        for review in [ALL, SOME] {
+            assert_eq!(numbers(review), Err((number, 0)));
+        }
+        for review in NOT_OF_D1 {
+            assert_eq!(numbers(review), Err((before_20(number), 0)));
+        }
     }
-    all_seen("core numbers", &[8, 9, 10, 11, 12]);
+    for review in NOT_OF_D1 {
+        assert_eq!(broken(14, NONE, 4, 3, review).core_numbers(0, 1, 4), Err((20, 0)));
+    }
+    all_seen("core numbers", &[8, 9, 10, 11, 12, 20]);
 }
 
 /// Words: how many are lent, the bit turned over, n, T, how many bytes are lent; the number. One rule is broken, then two and more.
@@ -138,19 +159,39 @@ const OUT_OF_RANGE: &[Least] = &[
 fn report() {
     for &(lent, bit, n, ticks, room, number) in WORDS_REFUSED {
         for least in OUT_OF_RANGE.iter().chain([&PLAIN, &[96, 63, 64]]) {
-            assert_eq!(broken(lent, bit, n, ticks).filtered(*least, room), Err((number, 0)));
+            for review in [ALL, SOME].into_iter().chain(NOT_OF_D1) {
+                assert_eq!(broken(lent, bit, n, ticks, review).filtered(*least, room), Err((number, 0)));
+            }
         }
     }
-    let day = broken(14, NONE, 4, 3);
-    for least in OUT_OF_RANGE {
-        for room in [80, 36, 35, 10, 9, 0] {
-            assert_eq!(day.filtered(*least, room), Err((17, 0)));
+    for review in [ALL, SOME] {
+        let day = broken(14, NONE, 4, 3, review);
+        for least in OUT_OF_RANGE {
+            for room in [80, 36, 35, 10, 9, 0] {
+                assert_eq!(day.filtered(*least, room), Err((17, 0)));
+            }
+        }
+        for (least, room) in [(PLAIN, 22), (PLAIN, 0), ([3, 1, 2], 9), ([1, 1, 4], 9), ([96, 63, 64], 0)] {
+            assert_eq!(day.filtered(least, room), Err((9, 0)));
         }
     }
-    for (least, room) in [(PLAIN, 35), (PLAIN, 0), ([3, 1, 2], 22), ([1, 1, 4], 9), ([96, 63, 64], 0)] {
-        assert_eq!(day.filtered(least, room), Err((9, 0)));
-    }
+    assert_eq!(broken(14, NONE, 4, 3, ALL).filtered(PLAIN, 35), Err((9, 0)));
+    assert_eq!(broken(14, NONE, 4, 3, ALL).filtered([3, 1, 2], 22), Err((9, 0)));
     all_seen("report", &[8, 9, 10, 11, 17]);
+}
+
+/// Whatever the thresholds are, and the buffer.
+#[test]
+fn report_of_what_cannot_be_reviewed() {
+    for review in NOT_OF_D1 {
+        let day = broken(14, NONE, 4, 3, review);
+        for least in OUT_OF_RANGE.iter().chain([&PLAIN, &[96, 63, 64]]) {
+            for room in [80, 36, 10, 9, 0] {
+                assert_eq!(day.filtered(*least, room), Err((20, 0)));
+            }
+        }
+    }
+    all_seen("report", &[20]);
 }
 
 /// Plan: how many words are lent, the bit turned over, n, T, query, h, how many bytes are lent; the number. One rule is broken, then two and more.
@@ -181,13 +222,57 @@ const PLAN_REFUSED: &[PlanCase] = &[
     (0, Some((0, 0)), HUGE, HUGE, 1 << 4, HUGE, 0, 10),
 ];
 
+/// Plan of D1: review, query, h, how many bytes are lent; the number. One rule is broken, then two and more: 20, 13, 21, 14 and 9 are judged in this order.
+const REVIEW_REFUSED: &[(u64, u64, usize, usize, u8)] = &[
+    (0, 0, 1, 80, 20),
+    (1 << 4, 0, 1, 80, 20),
+    (ALL | 1 << 63, 0b0010, 1, 80, 20),
+    (SOME, 0b0001, 1, 80, 21),
+    (SOME, 0b1000, 3, 80, 21),
+    (SOME, 0b0111, 1, 80, 21),
+    (SOME, ALL, 1, 80, 21),
+    (1 << 3, 0b0111, 1, 80, 21),
+    (SOME, 0, 0, 80, 14),
+    (SOME, 0, 4, 80, 14),
+    (SOME, SOME, HUGE, 80, 14),
+    (SOME, 0, 1, 31, 9),
+    (SOME, 0b0100, 3, 57, 9),
+    (0, 0b0001, 1, 80, 20),
+    (0, 1 << 4, 1, 80, 20),
+    (SOME | 1 << 4, 1 << 4, 1, 80, 20),
+    (SOME | 1 << 4, 1 << 5, 1, 80, 20),
+    (SOME | 1 << 4, 0b0001, 1, 80, 20),
+    (0, 0, 0, 80, 20),
+    (0, 0, 4, 0, 20),
+    (u64::MAX, u64::MAX, HUGE, 0, 20),
+    (SOME, 1 << 4, 1, 80, 13),
+    (SOME, 0b0001 | 1 << 4, 1, 80, 13),
+    (SOME, SOME | 1 << 63, 0, 80, 13),
+    (SOME, u64::MAX, 4, 0, 13),
+    (SOME, 0b0001, 0, 80, 21),
+    (SOME, 0b1010, 4, 80, 21),
+    (SOME, 0b0001, HUGE, 80, 21),
+    (SOME, 0b0001, 1, 31, 21),
+    (SOME, 0b1001, 0, 0, 21),
+    (SOME, 0, 0, 0, 14),
+    (SOME, SOME, 4, 0, 14),
+];
+
 #[test]
 fn plan() {
     for &(lent, bit, n, ticks, room, number) in WORDS_REFUSED {
-        assert_eq!(broken(lent, bit, n, ticks).plan(0b0001, 1, room), Err((number, 0)));
+        for review in [ALL, SOME].into_iter().chain(NOT_OF_D1) {
+            assert_eq!(broken(lent, bit, n, ticks, review).plan(0b0001, 1, room), Err((number, 0)));
+        }
     }
     for &(lent, bit, n, ticks, query, parts, room, number) in PLAN_REFUSED {
-        assert_eq!(broken(lent, bit, n, ticks).plan(query, parts, room), Err((number, 0)));
+        assert_eq!(broken(lent, bit, n, ticks, ALL).plan(query, parts, room), Err((number, 0)));
+        for review in NOT_OF_D1 {
+            assert_eq!(broken(lent, bit, n, ticks, review).plan(query, parts, room), Err((before_20(number), 0)));
+        }
     }
-    all_seen("plan", &[8, 9, 10, 11, 13, 14]);
+    for &(review, query, parts, room, number) in REVIEW_REFUSED {
+        assert_eq!(broken(14, NONE, 4, 3, review).plan(query, parts, room), Err((number, 0)));
+    }
+    all_seen("plan", &[8, 9, 10, 11, 13, 14, 20, 21]);
 }

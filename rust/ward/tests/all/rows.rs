@@ -4,6 +4,7 @@ use crate::model::Graph;
 use crate::numbers::Shape;
 use crate::support::probes::{core_numbers, highest_core, peel};
 use crate::support::random::Random;
+use crate::support::sets::random_set;
 
 /// The rows of a set's members, and an empty row for every other badge.
 fn kept(rows: &[u64; 64], members: u64) -> [u64; 64] {
@@ -26,11 +27,6 @@ fn three_badges_with_a_tail() {
         let rows = std::array::from_fn(|u| (0..64).filter(|&v| joined(u, v)).map(|v| 1 << v).sum());
         assert_eq!(compare_peel(&rows, u64::MAX, 2), 0b111);
     }
-}
-
-/// A set in which each badge is by a chance of so many in 32.
-fn random_set(random: &mut Random, chance: usize) -> u64 {
-    (0..64).filter(|_| random.below(32) < chance).map(|v| 1 << v).sum()
 }
 
 fn random_rows(random: &mut Random) -> [u64; 64] {

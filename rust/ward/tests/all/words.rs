@@ -6,27 +6,28 @@ use crate::support::lent::Lent;
 use crate::support::logs::random_log;
 use crate::support::random::Random;
 
-type Call = fn(&[u64], usize, usize, &mut [u8]) -> Result<usize, ward::Refused>;
+type Call = fn(&[u64], usize, usize, u64, &mut [u8]) -> Result<usize, ward::Refused>;
 
 const CALLS: [Call; 4] = [
-    ward::write,
-    |words, n, ticks, out| ward::core_numbers(words, n, ticks, 0, 0, out),
-    |words, n, ticks, out| ward::report(words, n, ticks, ward::Thresholds::default(), out),
-    |words, n, ticks, out| ward::plan(words, n, ticks, 0, 1, out),
+    |words, n, ticks, _, out| ward::write(words, n, ticks, out),
+    |words, n, ticks, review, out| ward::core_numbers(words, n, ticks, review, 0, 0, out),
+    |words, n, ticks, review, out| ward::report(words, n, ticks, review, ward::Thresholds::default(), out),
+    |words, n, ticks, review, out| ward::plan(words, n, ticks, review, 0, 1, out),
 ];
 
 /// The number by which the check refuses words that are handed over with n and T, 0 for a day. Every call gives it, with no byte lent and with some,
-/// and so does the model.
+/// with all badges under review and with none, and so does the model.
 fn checked(words: &[u64], n: usize, ticks: usize) -> u8 {
     let number = model::check(words, n, ticks).map_or_else(|refusal| refusal.0, |_| 0);
     let mut lent = Lent::holding(words);
     for call in CALLS {
-        for room in [0, 100] {
+        for (room, review) in [(0, ward::all_badges(n)), (100, ward::all_badges(n)), (0, 0), (100, 0)] {
             let mut out = Lent::room(room);
-            let answer = call(lent.slice(), n, ticks, out.slice()).map_err(|refused| (refused.refusal.number(), refused.offset));
+            let answer = call(lent.slice(), n, ticks, review, out.slice()).map_err(|refused| (refused.refusal.number(), refused.offset));
             lent.is_unchanged();
             match answer {
-                // what comes after the check: too few bytes, too many runs
+                // what comes after the check: nobody under review, too few bytes, too many runs
+                Err((20, 0)) => assert_eq!((number, review), (0, 0)),
                 Ok(_) | Err((9 | 15, 0)) => assert_eq!(number, 0),
                 Err(refusal) => {
                     assert_eq!(refusal, (number, 0));

@@ -9,14 +9,14 @@ use Rattle.records.proofs.WithinLimits.{limits-of}
 use Rattle.checks.proofs.TickRows.{unites}
 use Rattle.innermost.proofs.Columns.{symmetric-highest}
 use Rattle.groups.proofs.Narrowing.{going-start, going-size}
-use Rattle.groups.proofs.RowCores.{rows-symmetric, within}
+use Rattle.groups.proofs.RowCores.{rows-symmetric, united-sub}
 use Rattle.groups.proofs.LineLoops.{CoreAsked, bounds-meet, core-found, Finding, first-span, finding-start, finding-asks, place-orders, place-members, finding-next, finding-end}
 use Rattle.groups.proofs.lines.find_line.Statement.{statement}
 use Rattle.groups.proofs.lines.find_line.Tie as tie
 
 abbrev Inv-loop : tie.InvT-loop
 Inv-loop words day first query orders₀ cores₀ rows₀ reached₀ upper₀ last₀ last-end orders cores rows reached upper last =
-    Finding (day .badges) (day .ticks) words (members query) first orders₀ last rows reached upper orders cores
+    Finding (day .badges) (day .ticks) words (members (day .review)) (members query) first orders₀ last rows reached upper orders cores
 
 abbrev μ-loop : tie.MeasureT-loop
 μ-loop words day first query orders₀ cores₀ rows₀ reached₀ upper₀ last₀ last-end orders cores rows reached upper last = day .ticks - last
@@ -27,30 +27,30 @@ Turn = tie.In-loop Inv-loop μ-loop
 
 asked : (i : Turn) →
     let l = i .before .loop in
-    let a = i .before .before .before .before .before .before .before .args in CoreAsked (a .day .badges) (a .day .ticks) (a .words .now) (members (a .query)) (a .first) (l .last) (getD (l .orders) (l .last) 0) (l .upper) (l .rows) (l .reached)
+    let a = i .before .before .before .before .before .before .before .args in CoreAsked (a .day .badges) (a .day .ticks) (a .words .now) (members (a .day .review)) (members (a .query)) (a .first) (l .last) (getD (l .orders) (l .last) 0) (l .upper) (l .rows) (l .reached)
 asked i =
     let p = i .before .before .before .before .before .before .before .pre in
-    finding-asks (p .0) (p .1) (p .2) (i .before .loop .inv) (i .loop-test .taken)
+    finding-asks (p .0) (p .1) (p .2) (p .3) (i .before .loop .inv) (i .loop-test .taken)
 
 at-orders : (i : Turn) → i .before .loop .last < length (i .before .loop .orders)
 at-orders i =
     let p = i .before .before .before .before .before .before .before .pre in
-    place-orders (p .0) (p .1) (p .2) (i .before .loop .inv) (i .loop-test .taken)
+    place-orders (p .0) (p .1) (p .2) (p .3) (i .before .loop .inv) (i .loop-test .taken)
 
 at-cores : (i : Turn) → i .before .loop .last < length (i .before .loop .cores)
 at-cores i =
     let p = i .before .before .before .before .before .before .before .pre in
-    place-members (p .0) (p .1) (p .2) (i .before .loop .inv) (i .loop-test .taken)
+    place-members (p .0) (p .1) (p .2) (p .3) (i .before .loop .inv) (i .loop-test .taken)
 
 -- no tick is large
 small : (i : Turn) → i .before .loop .last * 8 < 1000
 small i = omega (arith, i .loop-test .taken, limits-of (i .before .before .before .before .before .before .before .pre .0 .limits) .short)
 
 first-rows-requires : tie.Need-first-rows-requires Inv-loop μ-loop
-first-rows-requires c κs = let p = c .before .before .before .before .pre in (first-span (p .0) (p .1), refl)
+first-rows-requires c κs = let p = c .before .before .before .before .pre in (first-span (p .0) (p .2), refl)
 
 loop-holds : tie.Need-loop-holds Inv-loop μ-loop
-loop-holds c = let p = c .before .before .before .before .before .pre in finding-start (p .0) (p .1) (p .2) (c .first-rows .ensures) (p .3)
+loop-holds c = let p = c .before .before .before .before .before .pre in finding-start (p .0) (p .1) (p .2) (p .3) (c .first-rows .ensures) (p .4)
 
 slice-read-lower : tie.Need-slice-read-lower Inv-loop μ-loop
 slice-read-lower c = at-orders (c .before)
@@ -74,7 +74,7 @@ loop-again : tie.Need-loop-again Inv-loop μ-loop
 loop-again c =
     let i = c .before .before in
     let p = i .before .before .before .before .before .before .before .pre in
-    finding-next (p .0) (p .1) (p .2) (i .before .loop .inv) (i .loop-test .taken) (bounds-meet (asked i) (c .if1 .taken))
+    finding-next (p .0) (p .1) (p .2) (p .3) (i .before .loop .inv) (i .loop-test .taken) (bounds-meet (asked i) (c .if1 .taken))
 
 slice-aggregate-narrow-to : tie.Need-slice-aggregate-narrow-to Inv-loop μ-loop
 slice-aggregate-narrow-to c = sym (going-size (going-start (asked (c .before .before .before) .rows-to)))
@@ -85,12 +85,15 @@ narrow-to-requires c κs = let i = c .before .before .before in (asked i .span, 
 united-requires : tie.Need-united-requires Inv-loop μ-loop
 united-requires c κs = search needs
 
+intersection-requires : tie.Need-intersection-requires Inv-loop μ-loop
+intersection-requires c κs = search needs
+
 highest-core-requires : tie.Need-highest-core-requires Inv-loop μ-loop
 highest-core-requires c κs = search needs
 
 -- the turn whose span is found from its rows
 abbrev turn : tie.After-members Inv-loop μ-loop → Turn
-turn c = c .before .before .before .before .before .before .before .before .before
+turn c = c .before .before .before .before .before .before .before .before .before .before
 
 slice-write-orders-2 : tie.Need-slice-write-orders-2 Inv-loop μ-loop
 slice-write-orders-2 c = at-orders (turn c)
@@ -113,20 +116,21 @@ loop-less-2 c = search needs
 loop-again-2 : tie.Need-loop-again-2 Inv-loop μ-loop
 loop-again-2 c =
     let h = c .before .before in
-    let n = h .before .before .before .before in
+    let u = h .before .before in
+    let n = u .before .before .before in
     let i = turn (c .before) in
     let p = i .before .before .before .before .before .before .before .pre in
     let s = asked i .span in
     let e = n .narrow-to .ensures in
-    let b = unites _ (h .before .united .ensures) in
-    let q = symmetric-highest (rows-symmetric s e _ (within s e b)) (h .highest-core .ensures) in
-    finding-next (p .0) (p .1) (p .2) (i .before .loop .inv) (i .loop-test .taken) (core-found (asked i) e b (q .order) (c .to-word .ensures ∙ q .members))
+    let b = unites _ (u .united .ensures) in
+    let q = symmetric-highest (rows-symmetric s e _ (united-sub s e b (p .1 .named))) (rw (h .before .intersection .ensures) at (h .highest-core .ensures)) in
+    finding-next (p .0) (p .1) (p .2) (p .3) (i .before .loop .inv) (i .loop-test .taken) (core-found (asked i) e b (record { order = q .order; members = c .to-word .ensures ∙ q .members }))
 
 same-length : tie.Need-same-length Inv-loop μ-loop
 same-length c = c .before .loop .inv .found .orders-size
 
 same-length-2 : tie.Need-same-length-2 Inv-loop μ-loop
-same-length-2 c = c .before .loop .inv .found .members-size ∙ sym (c .before .before .before .before .before .before .before .pre .3)
+same-length-2 c = c .before .loop .inv .found .members-size ∙ sym (c .before .before .before .before .before .before .before .pre .4)
 
 returns : tie.Need-returns Inv-loop μ-loop
 returns c = finding-end (c .before .loop .inv) (c .loop-test .left)
@@ -149,6 +153,7 @@ find-line-spec =
     slice-aggregate-narrow-to
     narrow-to-requires
     united-requires
+    intersection-requires
     highest-core-requires
     slice-write-orders-2
     to-word-requires

@@ -14,7 +14,7 @@ use Rattle.log.specs.Buffers.{deliver}
 use Rattle.cores.specs.Rows.{coreNumbers}
 use Rattle.spans.specs.Spans.{SpanOfDay}
 use Rattle.groups.specs.Calls.{coreNumberBytes}
-use Rattle.groups.proofs.NumbersCall.{judged-yes, judged-no, span-passed, numbers-found}
+use Rattle.groups.proofs.NumbersCall.{judged-yes, judged-no, numbers-found}
 use Rattle.groups.proofs.numbers.number_span.Statement.{statement}
 use Rattle.groups.proofs.numbers.number_span.Tie as tie
 
@@ -22,47 +22,45 @@ returns : tie.Need-returns
 unfolding deliver
 returns c =
     let a = c .before .before .before .args in
-    let e = judged-no (a .badges) (a .ticks) (a .words .now) (a .first) (a .last) (λ h. omega (arith, h .0, c .if1 .taken)) in
+    let e = judged-no (a .badges) (a .ticks) (a .words .now) (members (a .review)) (a .first) (a .last) (λ h. omega (arith, h .0, c .if1 .taken)) in
     (rw e, rw e)
 
 returns-2 : tie.Need-returns-2
 unfolding deliver
 returns-2 c =
     let a = c .before .before .before .before .args in
-    let e = judged-no (a .badges) (a .ticks) (a .words .now) (a .first) (a .last) (λ h. omega (arith, h .1, c .if2 .taken)) in
+    let e = judged-no (a .badges) (a .ticks) (a .words .now) (members (a .review)) (a .first) (a .last) (λ h. omega (arith, h .1, c .if2 .taken)) in
     (rw e, rw e)
 
 -- the span is one of the day
 here : (c : tie.Else2) → let a = c .before .before .before .before .args in SpanOfDay (a .badges) (a .ticks) (a .words .now) (a .first) (a .last)
-here c = span-passed _ _ (c .before .before .before .before .pre) (omega (arith, c .before .if1 .left)) (omega (arith, c .if2 .left))
+here c = record { lent = c .before .before .before .before .pre .0; rising = omega (arith, c .before .if1 .left); inside = omega (arith, c .if2 .left) }
 
 few : (c : tie.Else2) → c .before .before .before .before .args .badges ≤ capacity
 few c = limits-of (here c .lent .limits) .few
 
 -- the numbers found, of the n badges, are the bytes
 bytes : (c : tie.After-core-numbers) →
-    let a = c .before .before .before .before .before .before .before .args in
-    take (a .badges) (c .core-numbers .result) ≡ coreNumberBytes (a .badges) (a .words .now) (a .first) (a .last)
+    let a = c .before .before .before .before .before .before .args in
+    take (a .badges) (c .core-numbers .result) ≡ coreNumberBytes (a .badges) (a .words .now) (members (a .review)) (a .first) (a .last)
 bytes c =
-    let r = c .before .before in
-    let a = r .before .before .before .before .before .args in
-    ap (take (a .badges)) (c .core-numbers .ensures ∙ ap (λ (l : List ℕ). coreNumbers l (members (c .before .full .result))) (r .span-rows .ensures))
-    ∙ numbers-found (a .badges) (a .words .now) (a .first) (a .last) (few (r .before)) _ (c .before .full .ensures)
+    let r = c .before in
+    let s = r .before .before .before .before .before in
+    let a = s .args in
+    ap (take (a .badges)) (c .core-numbers .ensures ∙ ap (λ (l : List ℕ). coreNumbers l (members (a .review))) (r .span-rows .ensures))
+    ∙ numbers-found (a .badges) (a .words .now) (members (a .review)) (a .first) (a .last) (few (r .before)) (s .pre .1 .named)
 
 span-rows-requires : tie.Need-span-rows-requires
 span-rows-requires c κs = here c
-
-full-requires : tie.Need-full-requires
-full-requires c κs = search needs
 
 core-numbers-requires : tie.Need-core-numbers-requires
 core-numbers-requires c κs = search needs
 
 array-share-prefix-numbers : tie.Need-array-share-prefix-numbers
-array-share-prefix-numbers c = omega (arith, few (c .before .before .before))
+array-share-prefix-numbers c = omega (arith, few (c .before .before))
 
 slice-aggregate-deliver : tie.Need-slice-aggregate-deliver
-slice-aggregate-deliver c = sym (length-take-le _ (c .before .core-numbers .result) (omega (arith, few (c .before .before .before .before))))
+slice-aggregate-deliver c = sym (length-take-le _ (c .before .core-numbers .result) (omega (arith, few (c .before .before .before))))
 
 deliver-requires : tie.Need-deliver-requires
 deliver-requires c κs = search needs
@@ -77,9 +75,9 @@ returns-3 : tie.Need-returns-3
 returns-3 c =
     let d = c .before .before .before in
     let n = d .before .before .before in
-    let s = n .before .before .before in
+    let s = n .before .before in
     let a = s .before .before .before .before .args in
-    let e = ap success (bytes n) ∙ sym (judged-yes (a .badges) (a .ticks) (a .words .now) (a .first) (a .last) (here s .rising) (here s .inside)) in (
+    let e = ap success (bytes n) ∙ sym (judged-yes (a .badges) (a .ticks) (a .words .now) (members (a .review)) (a .first) (a .last) (here s .rising) (here s .inside)) in (
       c .delivered .ensures ∙ d .deliver .ensures .0 ∙ ap (λ (o : Outcome (List ℕ)). deliver o (a .buffer .now) .answer) e,
       d .deliver .ensures .1 ∙ ap (λ (o : Outcome (List ℕ)). deliver o (a .buffer .now) .buffer) e,
     )
@@ -91,7 +89,6 @@ number-span-spec =
     returns
     returns-2
     span-rows-requires
-    full-requires
     core-numbers-requires
     array-share-prefix-numbers
     slice-aggregate-deliver

@@ -22,10 +22,10 @@ cast-t10 : tie.Need-cast-t10
 cast-t10 c = omega (arith, small (c .before .before .before .before) .1)
 
 part-members-requires : tie.Need-part-members-requires
-part-members-requires c κs = let p = c .before .before .before .before .pre in (p .0, p .1)
+part-members-requires c κs = let p = c .before .before .before .before .pre in (p .0, p .1, p .2)
 
 append-record-requires : tie.Need-append-record-requires
-append-record-requires c κs = c .before .before .before .before .before .before .pre .2
+append-record-requires c κs = c .before .before .before .before .before .before .pre .3
 
 same-length : tie.Need-same-length
 same-length c = search needs
@@ -35,7 +35,7 @@ returns c =
     let a = c .before .before in
     let m = a .before .before in
     let s = m .before .before .before .before .before in
-    rw (part-found (s .pre .0) (members (s .args .query)) (s .pre .1) (m .part-members .ensures)) at (a .append-record .ensures)
+    rw (part-found (s .pre .0) (s .pre .1) (members (s .args .query)) (s .pre .2) (m .part-members .ensures)) at (a .append-record .ensures)
 
 pub append-part-spec : {M : Type 1} → statement M
 append-part-spec =

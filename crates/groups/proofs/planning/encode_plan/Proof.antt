@@ -10,7 +10,7 @@ use Rattle.groups.proofs.planning.encode_plan.Tie as tie
 
 abbrev Inv-loop : tie.InvT-loop
 Inv-loop words day query parts ends scores buffer₀ first₀ count₀ i₀ buffer first count i =
-    PlanSoFar (day .badges) (day .ticks) words (members query) parts ends scores i first count buffer₀ buffer
+    PlanSoFar (day .badges) (day .ticks) words (members (day .review)) (members query) parts ends scores i first count buffer₀ buffer
 
 abbrev μ-loop : tie.MeasureT-loop
 μ-loop words day query parts ends scores buffer₀ first₀ count₀ i₀ buffer first count i = parts - i
@@ -60,7 +60,7 @@ append-part-requires c κs =
     let w = c .before .before in
     let s = w .before .before .before .loop .inv in
     let l = w .before .before .loop-test .taken in
-    (rw (w .widen .ensures .0) (plan-span s l), rw (w .widen .ensures .0) (plan-score s l), plan-room s l)
+    (rw (w .widen .ensures .0) (plan-span s l), s .asked .reviewed, rw (w .widen .ensures .0) (plan-score s l), plan-room s l)
 
 add-first : tie.Need-add-first Inv-loop μ-loop
 add-first c = search needs

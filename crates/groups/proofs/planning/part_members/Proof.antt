@@ -1,4 +1,4 @@
--- `part_members` meets its contract: at score 0 these are all n badges, and else the core of the order that is the score, found from the run's rows.
+-- `part_members` meets its contract: at score 0 these are the badges under review, and else the core of the order that is the score, found from the run's rows.
 use native.Mathlib.Omega.{arith}
 use borrow.Author.Needs.{needs}
 use Rattle.sets.specs.Members.{members}
@@ -6,13 +6,10 @@ use Rattle.groups.proofs.PartFound.{members-all, members-core}
 use Rattle.groups.proofs.planning.part_members.Statement.{statement}
 use Rattle.groups.proofs.planning.part_members.Tie as tie
 
-full-requires : tie.Need-full-requires
-full-requires c κs = search needs
-
 returns : tie.Need-returns
 returns c =
     let s = c .before .before .before in
-    members-all (s .pre .0) (members (s .args .query)) (s .pre .1) (c .before .full .ensures) (c .if1 .taken)
+    members-all (s .pre .0) (s .pre .1) (members (s .args .query)) (s .pre .2) (c .if1 .taken)
 
 span-rows-requires : tie.Need-span-rows-requires
 span-rows-requires c κs = c .before .before .before .pre .0
@@ -29,13 +26,12 @@ returns-2 c =
     let r = h .before .before in
     let e = r .before in
     let s = e .before .before .before in
-    members-core (s .pre .0) (members (s .args .query)) (s .pre .1) (r .span-rows .ensures) (e .before .full .ensures) (omega (arith, e .if1 .left)) (h .highest .ensures)
+    members-core (s .pre .0) (s .pre .1) (members (s .args .query)) (s .pre .2) (r .span-rows .ensures) (omega (arith, e .if1 .left)) (h .highest .ensures)
 
 pub part-members-spec : {M : Type 1} → statement M
 part-members-spec =
     tie.close
     (tie.spec
-    full-requires
     returns
     span-rows-requires
     sub-highest

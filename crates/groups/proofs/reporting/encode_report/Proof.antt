@@ -2,16 +2,17 @@
 use Prim.Native.Nat.{_-_}
 use native.Mathlib.Omega.{arith}
 use borrow.Author.Needs.{needs}
+use Rattle.sets.specs.Members.{members}
 use Rattle.records.proofs.WithinLimits.{limits-of}
 use Rattle.groups.proofs.ReportBytes.{ReportSoFar, so-far-none, so-far-count, so-far-room, so-far-next, so-far-end}
 use Rattle.groups.proofs.reporting.encode_report.Statement.{statement}
 use Rattle.groups.proofs.reporting.encode_report.Tie as tie
 
 abbrev Inv-loop : tie.InvT-loop
-Inv-loop words day least buffer₀ orders₀ members₀ count₀ first₀ first-end buffer orders members count first = ReportSoFar (day .badges) (day .ticks) words least first count buffer₀ buffer orders members
+Inv-loop words day least buffer₀ orders₀ cores₀ count₀ first₀ first-end buffer orders cores count first = ReportSoFar (day .badges) (day .ticks) words (members (day .review)) least first count buffer₀ buffer orders cores
 
 abbrev μ-loop : tie.MeasureT-loop
-μ-loop words day least buffer₀ orders₀ members₀ count₀ first₀ first-end buffer orders members count first = day .ticks - first
+μ-loop words day least buffer₀ orders₀ cores₀ count₀ first₀ first-end buffer orders cores count first = day .ticks - first
 
 cast-t11 : tie.Need-cast-t11 Inv-loop μ-loop
 cast-t11 c = omega (arith, limits-of (c .before .before .before .pre .0 .limits) .few)
@@ -26,7 +27,7 @@ put-requires : tie.Need-put-requires Inv-loop μ-loop
 put-requires c κs = search needs
 
 loop-holds : tie.Need-loop-holds Inv-loop μ-loop
-loop-holds c = so-far-none _ _ _ _ _ (c .before .before .before .before .before .before .before .before .before .pre .0) (omega arith)
+loop-holds c = let p = c .before .before .before .before .before .before .before .before .before .pre in so-far-none _ _ _ _ _ _ (p .0) (p .1) (omega arith)
 
 slice-aggregate-find-line : tie.Need-slice-aggregate-find-line Inv-loop μ-loop
 slice-aggregate-find-line c = search needs
@@ -38,7 +39,7 @@ find-line-requires : tie.Need-find-line-requires Inv-loop μ-loop
 find-line-requires c κs =
     let i = c .before .before in
     let s = i .before .loop .inv in
-    (s .lent, i .loop-test .taken, s .before, s .members-size)
+    (s .lent, s .reviewed, i .loop-test .taken, s .before, s .members-size)
 
 slice-aggregate-append-line : tie.Need-slice-aggregate-append-line Inv-loop μ-loop
 slice-aggregate-append-line c = search needs

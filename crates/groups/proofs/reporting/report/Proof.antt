@@ -1,21 +1,23 @@
--- `report` meets its contract: the refusal of the check, or what the day's report comes to; and so the group statement.
+-- `report` meets its contract: the refusal of the words or of the badges under review, or what the day's report comes to; and so the group statement.
 use mathlib.Core.Path.{_≡_, sym, ap, _∙_}
 use borrow.Author.Needs.{needs}
+use Rattle.sets.specs.Members.{members}
 use Rattle.records.specs.Outcomes.{success}
-use Rattle.days.specs.Calls.{checkOf}
-use Rattle.checks.specs.Answers.{checkedOutcome}
-use Rattle.days.proofs.Checks.{check-passed}
 use Rattle.log.specs.Buffers.{Delivered}
-use Rattle.groups.proofs.ReportTheorems.{report-refused, report-passed, reported}
+use Rattle.log.proofs.Delivering.{deliver-refused, deliver-passed}
+use Rattle.groups.specs.Refusals.{judgedOutcome}
+use Rattle.groups.specs.Calls.{reviewOf, reportOf}
+use Rattle.groups.proofs.ReviewCall.{review-day}
+use Rattle.groups.proofs.ReportTheorems.{reported}
 use Rattle.groups.proofs.reporting.report.Statement.{statement}
 use Rattle.groups.proofs.reporting.report.Tie as tie
 
--- the check passed
-passed : (c : tie.After-enum-told) → let a = c .before .before .before .before .before .args in checkOf (a .badges) (a .ticks) (a .words .now) ≡ success tt
-passed c = sym (c .before .before .check-words .ensures) ∙ ap checkedOutcome (c .enum-told .given .1)
+-- the words and the badges under review passed
+passed : (c : tie.After-enum-told) → let a = c .before .before .before .before .before .args in reviewOf (a .badges) (a .ticks) (a .words .now) (members (a .review)) ≡ success tt
+passed c = sym (c .before .before .judge-review .ensures) ∙ ap judgedOutcome (c .enum-told .given .1)
 
-check-words-requires : tie.Need-check-words-requires
-check-words-requires c κs = search needs
+judge-review-requires : tie.Need-judge-review-requires
+judge-review-requires c κs = search needs
 
 enum-known-refusal : tie.Need-enum-known-refusal
 enum-known-refusal c = search needs
@@ -24,34 +26,36 @@ enum-told : tie.Need-enum-told
 enum-told c = search needs
 
 report-day-requires : tie.Need-report-day-requires
-report-day-requires c κs = check-passed _ _ _ (passed (c .before))
+report-day-requires c κs = review-day _ _ _ _ (passed (c .before))
 
 returns : tie.Need-returns
+unfolding reportOf
 returns c =
     let s = c .before .before .before in
     let a = s .before .before .before .args in
-    let e = report-refused (a .badges) (a .ticks) (a .words .now) (a .least) (a .buffer .now) _ _ (sym (s .check-words .ensures) ∙ ap checkedOutcome (c .before .refusal .given .1)) in
+    let e = deliver-refused _ _ (a .buffer .now) _ _ (sym (s .judge-review .ensures) ∙ ap judgedOutcome (c .before .refusal .given .1)) in
     let x = sym (ap (λ (x : Delivered). x .answer) e) in
     let y = sym (ap (λ (x : Delivered). x .buffer) e) in
-    (x, (y, reported (a .badges) (a .ticks) (a .words .now) (a .least) (a .buffer .now) _ _ x y))
+    (x, (y, reported (a .badges) (a .ticks) (a .words .now) (members (a .review)) (a .least) (a .buffer .now) _ _ x y))
 
 same-length : tie.Need-same-length
 same-length c = search needs
 
 returns-2 : tie.Need-returns-2
+unfolding reportOf
 returns-2 c =
     let d = c .before .before in
     let a = d .before .before .before .before .before .before .before .args in
-    let e = report-passed (a .badges) (a .ticks) (a .words .now) (a .least) (a .buffer .now) (passed (d .before .before)) in
+    let e = deliver-passed _ _ (a .buffer .now) tt (passed (d .before .before)) in
     let x = d .report-day .ensures .0 ∙ sym (ap (λ (x : Delivered). x .answer) e) in
     let y = d .report-day .ensures .1 ∙ sym (ap (λ (x : Delivered). x .buffer) e) in
-    (x, (y, reported (a .badges) (a .ticks) (a .words .now) (a .least) (a .buffer .now) _ _ x y))
+    (x, (y, reported (a .badges) (a .ticks) (a .words .now) (members (a .review)) (a .least) (a .buffer .now) _ _ x y))
 
 pub report-spec : {M : Type 1} → statement M
 report-spec =
     tie.close
     (tie.spec
-    check-words-requires
+    judge-review-requires
     enum-known-refusal
     enum-told
     report-day-requires

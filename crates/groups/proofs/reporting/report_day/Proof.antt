@@ -4,6 +4,7 @@ use mathlib.Core.List.{List}
 use Prim.Native.Nat.{ℕ}
 use borrow.Author.Needs.{needs}
 use borrow.Author.Tests.{not-true, not-false}
+use Rattle.sets.specs.Members.{members}
 use Rattle.records.specs.Outcomes.{Outcome}
 use Rattle.log.specs.Buffers.{deliver}
 use Rattle.log.proofs.Delivering.{leaves-refused}
@@ -15,7 +16,7 @@ in-range-requires : tie.Need-in-range-requires
 in-range-requires c κs = search needs
 
 returns : tie.Need-returns
-returns c = leaves-refused _ (judged-range _ _ _ _ (sym (c .before .in-range .ensures) ∙ not-true _ (c .if1 .taken)))
+returns c = leaves-refused _ (judged-range _ _ _ _ _ (sym (c .before .in-range .ensures) ∙ not-true _ (c .if1 .taken)))
 
 report-groups-requires : tie.Need-report-groups-requires
 report-groups-requires c κs = c .before .before .before .before .before .pre
@@ -29,7 +30,7 @@ returns-2 c =
     let r = g .before .before in
     let a = r .before .before .before .before .args in
     let d = g .report-groups .ensures in
-    let e = sym (judged-report (a .badges) (a .ticks) (a .words .now) (a .least) (sym (r .before .in-range .ensures) ∙ not-false _ (r .if1 .left))) in
+    let e = sym (judged-report (a .badges) (a .ticks) (a .words .now) (members (a .review)) (a .least) (sym (r .before .in-range .ensures) ∙ not-false _ (r .if1 .left))) in
     (d .answer ∙ ap (λ (o : Outcome (List ℕ)). deliver o (a .buffer .now) .answer) e, d .leaves ∙ ap (λ (o : Outcome (List ℕ)). deliver o (a .buffer .now) .buffer) e)
 
 pub report-day-spec : {M : Type 1} → statement M

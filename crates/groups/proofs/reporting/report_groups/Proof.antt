@@ -16,7 +16,7 @@ use Rattle.groups.proofs.reporting.report_groups.Statement.{statement}
 use Rattle.groups.proofs.reporting.report_groups.Tie as tie
 
 short : (c : tie.Start) → c .args .day .ticks ≤ maxTicks
-short c = limits-of (c .pre .limits) .short
+short c = limits-of (c .pre .0 .limits) .short
 
 most-bytes-requires : tie.Need-most-bytes-requires
 most-bytes-requires c κs = short (c .before .before)
@@ -25,7 +25,8 @@ encode-report-requires : tie.Need-encode-report-requires
 encode-report-requires c κs =
     let t = c .before in
     let m = t .before in
-    (m .before .before .before .pre, omega (arith, t .if1 .taken, m .most-bytes .ensures))
+    let p = m .before .before .before .pre in
+    (p .0, p .1, omega (arith, t .if1 .taken, m .most-bytes .ensures))
 
 -- the report has no more bytes than the most
 small : (c : tie.After-encode-report) → let t = c .before .before in
@@ -51,7 +52,7 @@ slice-aggregate-encode-report : tie.Need-slice-aggregate-encode-report
 slice-aggregate-encode-report c = search needs
 
 encode-report-requires-2 : tie.Need-encode-report-requires-2
-encode-report-requires-2 c κs = let s = c .before .before .before .before .before in (s .pre, omega (arith, most-small (short s)))
+encode-report-requires-2 c κs = let s = c .before .before .before .before .before in (s .pre .0, s .pre .1, omega (arith, most-small (short s)))
 
 -- and no more than the memory of its own holds
 fits : (c : tie.After-encode-report2) → 10 + 13 * c .encode-report2 .result ≤ 60538

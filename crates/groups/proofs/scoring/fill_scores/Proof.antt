@@ -9,13 +9,13 @@ use Rattle.groups.proofs.scoring.fill_scores.Statement.{statement}
 use Rattle.groups.proofs.scoring.fill_scores.Tie as tie
 
 abbrev Inv-loop : tie.InvT-loop
-Inv-loop words day query scores₀ orders₀ cores₀ first₀ first-end scores orders cores first = ScoredBefore (day .badges) (day .ticks) words (members query) first orders cores scores
+Inv-loop words day query scores₀ orders₀ cores₀ first₀ first-end scores orders cores first = ScoredBefore (day .badges) (day .ticks) words (members (day .review)) (members query) first orders cores scores
 
 abbrev μ-loop : tie.MeasureT-loop
 μ-loop words day query scores₀ orders₀ cores₀ first₀ first-end scores orders cores first = day .ticks - first
 
 loop-holds : tie.Need-loop-holds Inv-loop μ-loop
-loop-holds c = let p = c .before .before .pre in scored-none (p .0) _ (p .1)
+loop-holds c = let p = c .before .before .pre in scored-none (p .0) _ _ (p .2)
 
 slice-aggregate-find-line : tie.Need-slice-aggregate-find-line Inv-loop μ-loop
 slice-aggregate-find-line c = search needs
@@ -27,7 +27,8 @@ find-line-requires : tie.Need-find-line-requires Inv-loop μ-loop
 find-line-requires c κs =
     let i = c .before .before in
     let b = i .before .loop .inv in
-    (i .before .before .before .before .pre .0, i .loop-test .taken, b .before, b .members-size)
+    let p = i .before .before .before .before .pre in
+    (p .0, p .1, i .loop-test .taken, b .before, b .members-size)
 
 slice-aggregate-put-line : tie.Need-slice-aggregate-put-line Inv-loop μ-loop
 slice-aggregate-put-line c = search needs
@@ -52,7 +53,7 @@ loop-again c =
     scored-more (i .before .before .before .before .pre .0) (i .before .loop .inv) (i .loop-test .taken) (f .find-line .ensures) (p .put-line .ensures)
 
 same-length : tie.Need-same-length Inv-loop μ-loop
-same-length c = c .before .loop .inv .found .size ∙ sym (c .before .before .before .before .pre .1)
+same-length c = c .before .loop .inv .found .size ∙ sym (c .before .before .before .before .pre .2)
 
 returns : tie.Need-returns Inv-loop μ-loop
 returns c = scored-all (c .before .loop .inv) (c .loop-test .left)

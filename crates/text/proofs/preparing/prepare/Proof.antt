@@ -16,6 +16,9 @@ enum-known-refusal c = search needs
 enum-known-badges : tie.Need-enum-known-badges
 enum-known-badges c = search needs
 
+full-requires : tie.Need-full-requires
+full-requires c κs = search needs
+
 report-requires : tie.Need-report-requires
 report-requires c κs = search needs
 
@@ -38,9 +41,11 @@ same-length-3 c = search needs
 returns-2 : tie.Need-returns-2
 returns-2 c =
     let d = c .before .before in
-    let r = c .before .before .before .before .before .before .before .before .before .before in
+    let f = d .before .before in
+    let b = f .before .before .before in
+    let r = b .before .before .before .before in
     let a = r .before .before .before .before .before .args in
-    let e = prepare-read _ _ (a .buffer .now) _ (sym (r .read .ensures .0) ∙ ap verdictOutcome (c .before .before .before .before .before .before .badges .given .1)) _ (r .read .ensures .1) in
+    let e = prepare-read _ _ (a .buffer .now) _ (sym (r .read .ensures .0) ∙ ap verdictOutcome (b .badges .given .1)) _ (r .read .ensures .1) (f .full .ensures) in
     (d .report .ensures .0 ∙ sym (ap (λ (x : Prepared). x .answer) e), (sym (ap (λ (x : Prepared). x .words) e), d .report .ensures .1 .0 ∙ sym (ap (λ (x : Prepared). x .report) e)))
 
 pub prepare-spec : {M : Type 1} → statement M
@@ -50,6 +55,7 @@ prepare-spec =
     read-requires
     enum-known-refusal
     enum-known-badges
+    full-requires
     report-requires
     same-length
     returns

@@ -6,6 +6,7 @@ mod joining;
 mod listing;
 mod logs;
 mod records;
+mod reviews;
 mod spans;
 mod thresholds;
 
@@ -15,6 +16,7 @@ pub use joining::join;
 pub use listing::{group_lines, piece, refusal_lines};
 pub use logs::{judge, log_bytes};
 pub use records::{Record, plan_bytes, report_bytes};
+pub use reviews::{check_query, check_review};
 pub use spans::Cores;
 pub use thresholds::{Least, PLAIN, RANGES, check_least, kept};
 

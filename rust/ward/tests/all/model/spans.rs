@@ -1,19 +1,18 @@
-//! The cores of every span of a day: core numbers, groups and plans.
+//! The cores of every span of a day, among the badges under review: groups and plans.
 
-use super::graphs::full;
 use super::{Day, Graph, Record};
 use std::cmp::Reverse;
 
-/// The cores of every span of a day.
+/// The cores of every span of a day, among the badges under review.
 pub struct Cores {
-    n: usize,
     ticks: usize,
+    review: u64,
     /// For each first and last tick the cores of order 1, 2 and so on, as far as there are any.
     of_span: Vec<Vec<u64>>,
 }
 
 impl Cores {
-    pub fn of(day: &Day) -> Cores {
+    pub fn of(day: &Day, review: u64) -> Cores {
         let (n, ticks) = (day.n, day.ticks);
         // how many ticks the pair stays in contact, from a tick on, without a break
         let mut stay = vec![vec![vec![0; n]; n]; ticks + 1];
@@ -27,20 +26,20 @@ impl Cores {
         let mut of_span = vec![Vec::new(); ticks * ticks];
         for first in 0..ticks {
             for last in first..ticks {
-                of_span[first * ticks + last] = Graph::new(n, |u, v| stay[first][u][v] > last - first).cores(full(n));
+                of_span[first * ticks + last] = Graph::new(n, |u, v| stay[first][u][v] > last - first).cores(review);
             }
         }
-        Cores { n, ticks, of_span }
+        Cores { ticks, review, of_span }
     }
 
     fn on(&self, first: usize, last: usize) -> &[u64] {
         &self.of_span[first * self.ticks + last]
     }
 
-    /// The largest order whose core contains the query, with that core; 0 and all n badges if there is none.
+    /// The largest order whose core contains the query, with that core; 0 and the reviewed set if there is none.
     pub fn highest(&self, query: u64, first: usize, last: usize) -> (usize, u64) {
         let mut orders = self.on(first, last).iter().enumerate().filter(|core| query & !core.1 == 0);
-        orders.next_back().map_or((0, full(self.n)), |(place, core)| (place + 1, *core))
+        orders.next_back().map_or((0, self.review), |(place, core)| (place + 1, *core))
     }
 
     /// The maximal cores, by first tick and then last tick.

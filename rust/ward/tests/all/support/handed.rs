@@ -5,11 +5,12 @@ use super::seen::refusal;
 use crate::model::{self, Cores, Day, Graph, Least, PLAIN, Record, Refusal, full};
 use std::cell::OnceCell;
 
-/// Words that are handed over with n and T, and what the model makes of them.
+/// Words that are handed over with n, T and a set of badges under review, and what the model makes of them.
 pub struct Handed {
     words: Vec<u64>,
     n: usize,
     ticks: usize,
+    review: u64,
     day: Result<Day, Refusal>,
     cores: OnceCell<Cores>,
     groups: OnceCell<Vec<Record>>,
@@ -17,9 +18,14 @@ pub struct Handed {
 
 /// The calls, into so many bytes: each gives what it wrote.
 impl Handed {
+    /// With all n badges under review, or all 64 where there are more.
     pub fn new(words: &[u64], n: usize, ticks: usize) -> Handed {
+        Handed::reviewing(words, n, ticks, full(n.min(64)))
+    }
+
+    pub fn reviewing(words: &[u64], n: usize, ticks: usize, review: u64) -> Handed {
         let day = model::check(words, n, ticks);
-        Handed { words: words.to_vec(), n, ticks, day, cores: OnceCell::new(), groups: OnceCell::new() }
+        Handed { words: words.to_vec(), n, ticks, review, day, cores: OnceCell::new(), groups: OnceCell::new() }
     }
 
     pub fn write(&self, room: usize) -> Result<Vec<u8>, Refusal> {
@@ -28,7 +34,7 @@ impl Handed {
     }
 
     pub fn core_numbers(&self, first: usize, last: usize, room: usize) -> Result<Vec<u8>, Refusal> {
-        let call = |words: &[u64], out: &mut [u8]| ward::core_numbers(words, self.n, self.ticks, first, last, out);
+        let call = |words: &[u64], out: &mut [u8]| ward::core_numbers(words, self.n, self.ticks, self.review, first, last, out);
         self.compare("core numbers", room, self.numbers(first, last), call)
     }
 
@@ -41,12 +47,12 @@ impl Handed {
     pub fn filtered(&self, least: Least, room: usize) -> Result<Vec<u8>, Refusal> {
         let [ticks, order, members] = least;
         let thresholds = ward::Thresholds { ticks, order, members };
-        let call = |words: &[u64], out: &mut [u8]| ward::report(words, self.n, self.ticks, thresholds, out);
+        let call = |words: &[u64], out: &mut [u8]| ward::report(words, self.n, self.ticks, self.review, thresholds, out);
         self.compare("report", room, self.groups(least), call)
     }
 
     pub fn plan(&self, query: u64, parts: usize, room: usize) -> Result<Vec<u8>, Refusal> {
-        let call = |words: &[u64], out: &mut [u8]| ward::plan(words, self.n, self.ticks, query, parts, out);
+        let call = |words: &[u64], out: &mut [u8]| ward::plan(words, self.n, self.ticks, self.review, query, parts, out);
         self.compare("plan", room, self.parts(query, parts), call)
     }
 
@@ -73,8 +79,14 @@ impl Handed {
         self.day.as_ref().map_err(|r| *r)
     }
 
+    /// The day once its badges under review have passed: 10, 8, 11, 20.
+    fn reviewed(&self) -> Result<&Day, Refusal> {
+        let day = self.day()?;
+        model::check_review(self.n, self.review).map(|()| day)
+    }
+
     fn cores(&self) -> Result<&Cores, Refusal> {
-        self.day().map(|day| self.cores.get_or_init(|| Cores::of(day)))
+        self.reviewed().map(|day| self.cores.get_or_init(|| Cores::of(day, self.review)))
     }
 
     /// Write: 10, 8, 11, 15.
@@ -83,13 +95,13 @@ impl Handed {
         if runs.len() > 8000 { Err((15, 0)) } else { Ok(model::log_bytes(self.n as u8, self.ticks as u8, &runs)) }
     }
 
-    /// Core numbers: 10, 8, 11, 12.
+    /// Core numbers: 10, 8, 11, 20, 12.
     pub fn numbers(&self, first: usize, last: usize) -> Result<Vec<u8>, Refusal> {
-        let day = self.day()?;
-        if first > last || last >= self.ticks { Err((12, 0)) } else { Ok(Graph::throughout(day, first, last).core_numbers(full(self.n))) }
+        let day = self.reviewed()?;
+        if first > last || last >= self.ticks { Err((12, 0)) } else { Ok(Graph::throughout(day, first, last).core_numbers(self.review)) }
     }
 
-    /// Report: 10, 8, 11, 17.
+    /// Report: 10, 8, 11, 20, 17.
     pub fn groups(&self, least: Least) -> Result<Vec<u8>, Refusal> {
         let cores = self.cores()?;
         model::check_least(least)?;
@@ -97,12 +109,10 @@ impl Handed {
         Ok(model::report_bytes(self.n, self.ticks, &model::kept(groups, least)))
     }
 
-    /// Plan: 10, 8, 11, 13, 14.
+    /// Plan: 10, 8, 11, 20, 13, 21, 14.
     pub fn parts(&self, query: u64, parts: usize) -> Result<Vec<u8>, Refusal> {
         let cores = self.cores()?;
-        if self.n < 64 && query >> self.n != 0 {
-            return Err((13, 0));
-        }
+        model::check_query(self.n, self.review, query)?;
         if parts == 0 || parts > self.ticks {
             return Err((14, 0));
         }

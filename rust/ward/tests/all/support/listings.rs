@@ -3,7 +3,7 @@
 use super::calls::day_of;
 use super::lent::Lent;
 use super::probes;
-use crate::model::{self, Cores, Day, Record, Refusal};
+use crate::model::{self, Cores, Day, Record, Refusal, full};
 
 /// What a listing has to be. The words and the report are those in front of what was lent; none where it is left as it was.
 pub struct Listing {
@@ -24,13 +24,13 @@ impl Listing {
         Listing { prepared: Ok(report.len()), words: day.words(), report, lines: model::group_lines(day.n, day.ticks, groups) }
     }
 
-    /// The model's of a log, lent so many words, and so many bytes for the report.
+    /// The model's of a log, lent so many words, and so many bytes for the report: all badges are under review.
     pub fn of_log(log: &[u8], lent: usize, room: usize) -> Listing {
         let day = match day_of(log, lent) {
             Err(refusal) => return Listing::refused(refusal, Vec::new()),
             Ok((day, _)) => day,
         };
-        let listing = Listing::of_day(&day, &Cores::of(&day).groups());
+        let listing = Listing::of_day(&day, &Cores::of(&day, full(day.n)).groups());
         if room < listing.report.len() { Listing::refused((9, 0), listing.words) } else { listing }
     }
 

@@ -1,4 +1,4 @@
-//! What the tests share: lent memory, the calls against the model, logs and days.
+//! What the tests share: lent memory, the calls against the model, logs, days and sets.
 
 pub mod calls;
 pub mod d1;
@@ -12,3 +12,4 @@ pub mod random;
 pub mod receivers;
 pub mod refused_logs;
 pub mod seen;
+pub mod sets;
