@@ -31,7 +31,8 @@ use Rattle.spans.specs.Reviews.{isReview}
 use Rattle.spans.specs.Plans.{scoreOn, membersOn, partOn, partsFrom, partsOf, isQuery, isReviewedQuery, isParts}
 use Rattle.spans.specs.PlanStatement.{sumOfOrders}
 use Rattle.spans.specs.Encoding.{encodeCore, encodeCores, reportBytes, planBytes}
-use Rattle.groups.specs.Calls.{reviewOf, coreNumberBytes, spanJudged, coreNumbersOf, reportJudged, reportOf, planJudged, planOf}
+use Rattle.spans.specs.Judging.{reviewOf, coreNumberBytes, spanJudged, reportJudged, planJudged}
+use Rattle.groups.specs.Calls.{coreNumbersOf, reportOf, planOf}
 use Rattle.text.specs.Decimal.{decimalIn, decimal}
 use Rattle.text.specs.Listing.{field, headLine, memberList, groupLine, refusalLine, reportLines, judgedLines, joined, listing}
 use Rattle.promises.specs.D1.{badges, d1Words}

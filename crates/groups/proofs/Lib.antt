@@ -1,13 +1,10 @@
--- Laws of the definitions in specs/, from the bottom up. Other crates cite ReviewCall, NumbersCall, ReportTheorems and PlanCall.
+-- Laws of the definitions in specs/, from the bottom up. Other crates cite ReportTheorems alone.
 
 -- the rows of spans, and the loop that narrows them
 pub mod TickRows
 pub mod Narrowing
--- what the calls judge first
-pub mod ReviewCall
 -- what is found from rows: core numbers, and the loop over the spans with one first tick
 pub mod RowCores
-pub mod NumbersCall
 pub mod LineLoops
 -- records in bytes
 pub mod Appended

@@ -51,10 +51,10 @@ module _ {n T : ℕ} {ws : List ℕ} {base query first last lower upper : ℕ} {
       record { score = e; new = sym (new-no n ws base query first last (omega (arith, a .below))); rows-to = a .rows-to }
 
   -- elsewhere the core is found from the span's rows, among the reviewed badges that are in some row
-  pub core-found : {longer : List ℕ} {s order members : ℕ} → longer ≡ spanRows n ws first last → Unites longer s
-      → HighestFound (graph longer) (intersection s base) query lower upper order members → CoreFound n ws base query first last order members longer last
+  pub core-found : {longer : List ℕ} {s t order members : ℕ} → longer ≡ spanRows n ws first last → Unites longer s → t ≡ intersection s base
+      → HighestFound (graph longer) t query lower upper order members → CoreFound n ws base query first last order members longer last
   unfolding scoreOn coreOn highestOrder
-  core-found {longer} {s} {order} {members} e b h =
+  core-found {longer} {s} {t} {order} {members} e b q h =
       record {
         score = omega (arith, found .order, a .below, a .above, score-before-le n ws base query first last);
         new = found .members ∙ by-cases (decLt lower (scoreOn n ws base query first last)) yes′ no′;
@@ -62,7 +62,7 @@ module _ {n T : ℕ} {ws : List ℕ} {base query first last lower upper : ℕ} {
       }
     where
       found : HighestFound (spanNeighbours n ws first last) base query lower upper order members
-      found = found-among (united-cores (a .span) e b (a .named)) h
+      found = found-among (united-cores (a .span) e b (a .named) q) h
 
       least : min upper (scoreOn n ws base query first last) ≡ scoreOn n ws base query first last
       least = omega (arith, a .above)

@@ -1,47 +1,26 @@
--- Laws of the call plan: how it is judged, and that the ends found from a table of the scores are the plan's.
+-- Laws of the call plan: how long a plan is, and that the ends found from a table of the scores are the plan's.
 use mathlib.Core.Path.{_≡_, refl, sym, ap, _∙_}
-use mathlib.Core.Bool.{true, false}
+use mathlib.Core.Bool.{true}
 use mathlib.Core.List.{List, _++_}
 use Prim.Native.Nat.{ℕ, _+_, _*_, _≤_, _<_}
 use native.Mathlib.Omega.{arith}
-use lib.Dec.{leb}
 use lib.ListN.{length, take, drop}
-use borrow.Author.Tests.{le-leb, leb-true}
-use Rattle.sets.specs.Bools.{_and_, isnt}
 use Rattle.sets.specs.Sets.{isSub, full}
-use Rattle.sets.proofs.Bools.{and-in, and-left, and-right, to-false}
 use Rattle.records.specs.Limits.{maxTicks}
-use Rattle.records.specs.Outcomes.{Outcome, refused, success, refuseIf}
+use Rattle.records.specs.Outcomes.{Outcome, refused, success}
 use Rattle.log.specs.Buffers.{deliver}
 use Rattle.log.proofs.Delivering.{deliver-short, deliver-fits}
 use Rattle.cuts.specs.Cuttings.{Cutting}
 use Rattle.cuts.specs.Sums.{bestEnds, tableScore, endsOf}
 use Rattle.cuts.proofs.Sums.{best-ends, ends-same}
 use Rattle.cuts.proofs.EndsOf.{ends-of}
-use Rattle.spans.specs.Plans.{scoreOn, partsFrom, partsOf, isQuery, isReviewedQuery, isParts}
+use Rattle.spans.specs.Plans.{scoreOn, partsFrom, partsOf}
 use Rattle.spans.specs.Encoding.{planBytes}
+use Rattle.spans.proofs.Judging.{judged-plan}
 use Rattle.spans.proofs.MostGroups.{plan-length}
 use Rattle.spans.proofs.PlanParts.{parts-length}
 use Rattle.groups.specs.Scoring.{Scores}
-use Rattle.groups.specs.Calls.{planJudged}
-
--- 13, 21, 14, and the bytes
-module _ (n T : ℕ) (ws : List ℕ) (base query h : ℕ) where
-  pub judged-query : isSub query (full n) ≡ false → planJudged n T ws base query h ≡ refused 13 0
-  unfolding planJudged isQuery refuseIf isnt
-  judged-query e = rw e
-
-  pub judged-reviewed : isSub query (full n) ≡ true → isSub query base ≡ false → planJudged n T ws base query h ≡ refused 21 0
-  unfolding planJudged isQuery isReviewedQuery refuseIf isnt
-  judged-reviewed e f = rw (e, f)
-
-  pub judged-parts : isSub query (full n) ≡ true → isSub query base ≡ true → ((1 ≤ h) × (h ≤ T) → ⊥) → planJudged n T ws base query h ≡ refused 14 0
-  unfolding planJudged isQuery isReviewedQuery isParts refuseIf isnt
-  judged-parts e f g = rw (e, f, to-false (leb 1 h and leb h T) (λ x. g (leb-true _ _ (and-left _ _ x), leb-true _ _ (and-right _ _ x))))
-
-  pub judged-plan : isSub query (full n) ≡ true → isSub query base ≡ true → 1 ≤ h → h ≤ T → planJudged n T ws base query h ≡ success (planBytes n T h query (partsOf n T ws base query h))
-  unfolding planJudged isQuery isReviewedQuery isParts refuseIf isnt
-  judged-plan e f l m = rw (e, f, and-in (leb 1 h) (leb h T) (le-leb _ _ l) (le-leb _ _ m))
+use Rattle.spans.specs.Judging.{planJudged}
 
 -- ends that cut a day into h runs, and into the parts of the plan
 pub record PlanEnds (n T : ℕ) (ws : List ℕ) (base query h : ℕ) (ends : List ℕ) : Type 0 where

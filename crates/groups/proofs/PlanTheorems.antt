@@ -17,10 +17,11 @@ use Rattle.spans.specs.Encoding.{planBytes, planRecords}
 use Rattle.spans.specs.PlanStatement.{PlanStatement, PlanAsked}
 use Rattle.spans.proofs.Decoding.{plan-said}
 use Rattle.spans.proofs.PlanParts.{parts-stated, plan-count, plan-small}
-use Rattle.groups.specs.Calls.{reviewOf, planJudged, planOf}
+use Rattle.spans.specs.Judging.{reviewOf, planJudged}
+use Rattle.groups.specs.Calls.{planOf}
 use Rattle.groups.specs.ShiftPlans.{PlansShifts, PlanShown}
-use Rattle.groups.proofs.ReviewCall.{review-passed, review-day}
-use Rattle.groups.proofs.PlanCall.{judged-plan}
+use Rattle.spans.proofs.Judging.{review-passed, review-day}
+use Rattle.spans.proofs.Judging.{judged-plan}
 
 -- the bytes of a plan that was asked for say its parts
 parts-said : {n T : ℕ} {ws : List ℕ} {base query h : ℕ} → PlanAsked n T ws base query h → planRecords (planBytes n T h query (partsOf n T ws base query h)) ≡ partsOf n T ws base query h

@@ -6,11 +6,11 @@ use Prim.Native.Nat.{ℕ, _^_, _≤_, _<_}
 use native.Mathlib.Omega.{arith}
 use lib.ListN.{length, take, drop}
 use lib.Pow.{pow-mono}
-use Rattle.sets.specs.Bools.{_and_, isnt}
+use Rattle.sets.specs.Bools.{_and_}
 use Rattle.sets.specs.Sets.{Sub, full}
 use Rattle.sets.specs.Members.{capacity}
 use Rattle.sets.proofs.Sets.{full-lt, sub-lt, sub-trans}
-use Rattle.records.specs.Outcomes.{Outcome, refused, success, refuseIf, andThen}
+use Rattle.records.specs.Outcomes.{Outcome, refused, success, andThen}
 use Rattle.records.proofs.Outcomes.{success-same, refuse-passed, then-passed}
 use Rattle.records.proofs.WithinLimits.{limits-of}
 use Rattle.days.specs.Days.{LentDay}
@@ -32,9 +32,10 @@ use Rattle.spans.proofs.MostGroups.{groups-few}
 use Rattle.spans.proofs.KeptRecords.{of-kept, kept-le}
 use Rattle.spans.proofs.GroupLists.{of-groups, groups-stated, kept-plain}
 use Rattle.groups.specs.Appending.{keptBytes}
-use Rattle.groups.specs.Calls.{reviewOf, reportJudged, reportOf}
+use Rattle.spans.specs.Judging.{reviewOf, reportJudged}
+use Rattle.groups.specs.Calls.{reportOf}
 use Rattle.groups.specs.GroupReports.{ReportsGroups, Reported}
-use Rattle.groups.proofs.ReviewCall.{review-passed, review-day}
+use Rattle.spans.proofs.Judging.{review-passed, review-day, judged-range, judged-report}
 
 -- the members of a core among badges of the day are below 2 ^ n
 pub core-small : (n : ℕ) (ws : List ℕ) (base k first last : ℕ) → n ≤ capacity → Sub base (full n) → coreOn n ws base k first last < 2 ^ capacity
@@ -54,16 +55,6 @@ groups-said {n} {T} {ws} {base} least d r =
     report-said n T (keptGroups n T ws base least)
     (λ c i. let s = of-groups n T ws base c (of-kept least (groupsOf n T ws base) i .0) in rw (s .members) (core-small n ws base (c .order) (c .first) (c .last) (l .few) r))
     (omega (arith, kept-le least (groupsOf n T ws base), groups-few n T ws base (l .short)))
-
--- 17, and the bytes
-module _ (n T : ℕ) (ws : List ℕ) (base : ℕ) (least : Thresholds) where
-  pub judged-range : inRange least ≡ false → reportJudged n T ws base least ≡ refused 17 0
-  unfolding reportJudged refuseIf isnt
-  judged-range e = rw e
-
-  pub judged-report : inRange least ≡ true → reportJudged n T ws base least ≡ success (keptBytes n T ws base least)
-  unfolding reportJudged refuseIf isnt
-  judged-report e = rw e
 
 -- a day and a review of it are reported as the thresholds are judged
 module _ (n T : ℕ) (ws : List ℕ) (base : ℕ) (least : Thresholds) (buffer : List ℕ) (d : LentDay n T ws) (r : Review n base) where

@@ -1,23 +1,26 @@
 -- The cores of the rows of a span are those of the span, among the reviewed badges, also among those of them that are in some row.
-use mathlib.Core.Path.{_≡_, ap, _∙_}
+use mathlib.Core.Path.{_≡_, refl, ap, _∙_}
 use mathlib.Core.List.{List}
 use Prim.Native.Nat.{ℕ, _≤_, _<_}
 use native.Mathlib.Nat.{le-refl, le-trans}
 use native.Mathlib.Omega.{arith}
+use lib.ListN.{take}
 use Rattle.sets.specs.Sets.{In, Sub, full, intersection, size}
 use Rattle.sets.specs.Members.{capacity}
 use Rattle.sets.proofs.Sets.{some, in-intersection, of-intersection-left, of-intersection-right, of-full, sub-trans, sub-antisym}
 use Rattle.sets.proofs.Size.{size-none}
+use Rattle.sets.proofs.Tables.{tabulate-take, tabulate-same}
 use Rattle.records.proofs.WithinLimits.{limits-of}
 use Rattle.cores.specs.Graphs.{degree}
 use Rattle.cores.specs.Cores.{core}
-use Rattle.cores.specs.Rows.{graph}
+use Rattle.cores.specs.Rows.{graph, coreNumbers}
 use Rattle.innermost.specs.Columns.{Symmetric}
 use Rattle.cores.proofs.Degrees.{FewerPairs, pairs-refl}
 use Rattle.cores.proofs.Cores.{core-sub, core-cohesive, core-largest, core-mono, core-same}
-use Rattle.cores.proofs.Orders.{SameCores}
+use Rattle.cores.proofs.Orders.{SameCores, number-among}
 use Rattle.checks.proofs.TickRows.{Unites}
 use Rattle.spans.specs.Spans.{SpanOfDay, spanNeighbours, spanRows}
+use Rattle.spans.specs.Judging.{coreNumberBytes}
 use Rattle.spans.proofs.SpanRows.{in-span, of-span, span-row}
 
 -- among badges of the day, the rows of a span have the cores of the span
@@ -33,6 +36,11 @@ rows-cores n ws first last w {base} r e = record { at = λ j l. rw e (core-same 
 
     more : FewerPairs base (spanNeighbours n ws first last) (graph (spanRows n ws first last))
     more = record { pair = λ u v i j k. rw (row u i) k }
+
+-- the core numbers found from a span's rows, among badges of the day, are those of the span
+pub numbers-found : (n : ℕ) (ws : List ℕ) (base first last : ℕ) → n ≤ capacity → Sub base (full n) → take n (coreNumbers (spanRows n ws first last) base) ≡ coreNumberBytes n ws base first last
+unfolding coreNumbers coreNumberBytes
+numbers-found n ws base first last w r = tabulate-take capacity n _ w ∙ tabulate-same n _ _ (λ u l. number-among (rows-cores n ws first last w r refl) u)
 
 -- ---- the rows of a day are symmetric, and so the highest core by in-degrees is that by degrees
 
@@ -72,13 +80,13 @@ module _ {n T : ℕ} {ws : List ℕ} {first last : ℕ} (d : SpanOfDay n T ws fi
   fewer-badges : Sub (intersection s base) base
   fewer-badges = record { at = λ u i. of-intersection-right s base u i }
 
-  pub united-sub : Sub (intersection s base) (full n)
-  united-sub = sub-trans fewer-badges r
+  pub united-sub : {t : ℕ} → t ≡ intersection s base → Sub t (full n)
+  united-sub f = rw f (sub-trans fewer-badges r)
 
-  pub united-cores : SameCores (graph rows) (spanNeighbours n ws first last) (intersection s base) base
-  united-cores = record {
+  pub united-cores : {t : ℕ} → t ≡ intersection s base → SameCores (graph rows) (spanNeighbours n ws first last) t base
+  united-cores f = rw f (record {
     at = λ j l. sub-antisym _ _
         (core-mono (intersection s base) base j j fewer-badges (pairs-refl (intersection s base) (graph rows)) (le-refl j))
         (core-largest (graph rows) (intersection s base) j _ (record { at = member j l }) (core-cohesive (graph rows) base j))
         ∙ rows-cores n ws first last (few d e) r e .at j l;
-  }
+  })

@@ -44,8 +44,8 @@ pub(crate) fn find_line(
         }
         narrow_to(&mut rows, words, day, first, reached, last);
         reached = last;
-        let all = united(&rows);
-        let base = all.intersection(day.review);
+        let met = united(&rows);
+        let base = met.intersection(day.review);
         let core = highest_core(rows, base, query, lower, upper);
         let members = core.members;
         upper = core.order;

@@ -6,7 +6,7 @@ ghost use Rattle.sets.specs.Members.{capacity, members};
 ghost use Rattle.records.specs.Outcomes.{success, refuseIf};
 ghost use Rattle.spans.specs.Reviews.{isReview};
 ghost use Rattle.groups.specs.Refusals.{judgedOutcome};
-ghost use Rattle.groups.specs.Calls.{reviewOf};
+ghost use Rattle.spans.specs.Judging.{reviewOf};
 use crate::refusal::Refusal;
 use log::Checked;
 use log::check_words;

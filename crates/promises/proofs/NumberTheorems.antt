@@ -20,9 +20,10 @@ use Rattle.spans.specs.Spans.{SpanOfDay, spanNeighbours}
 use Rattle.spans.specs.Contacts.{OfOrder}
 use Rattle.spans.specs.Reviews.{Review}
 use Rattle.spans.proofs.OrderSets.{order-cohesive, cohesive-order}
-use Rattle.groups.specs.Calls.{coreNumberBytes, coreNumbersOf}
-use Rattle.groups.proofs.ReviewCall.{review-passed}
-use Rattle.groups.proofs.NumbersCall.{judged-yes}
+use Rattle.spans.specs.Judging.{coreNumberBytes}
+use Rattle.groups.specs.Calls.{coreNumbersOf}
+use Rattle.spans.proofs.Judging.{review-passed}
+use Rattle.spans.proofs.Judging.{judged-yes}
 use Rattle.promises.specs.CoreNumbers.{AreCoreNumbers, GivesCoreNumbers}
 
 module _ {n T : ℕ} {ws : List ℕ} {base first last : ℕ} (d : SpanOfDay n T ws first last) (r : Review n base) where

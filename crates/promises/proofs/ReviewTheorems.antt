@@ -29,9 +29,10 @@ use Rattle.spans.specs.Encoding.{planBytes}
 use Rattle.spans.specs.PlanStatement.{PlanAsked}
 use Rattle.spans.proofs.SpanRows.{in-span, of-span}
 use Rattle.spans.proofs.Reviews.{all-reviewed}
-use Rattle.groups.specs.Calls.{reviewOf, coreNumbersOf, reportOf, planJudged, planOf}
-use Rattle.groups.proofs.ReviewCall.{review-passed, all-review}
-use Rattle.groups.proofs.PlanCall.{judged-plan}
+use Rattle.spans.specs.Judging.{reviewOf, planJudged}
+use Rattle.groups.specs.Calls.{coreNumbersOf, reportOf, planOf}
+use Rattle.spans.proofs.Judging.{review-passed, all-review}
+use Rattle.spans.proofs.Judging.{judged-plan}
 use Rattle.promises.specs.Reviews.{coreNumbersOfAll, reportOfAll, planJudgedOfAll, planOfAll, leavingOut, atScoreZero}
 use Rattle.promises.proofs.SameCores.{SameSpans, span-judged, report-judged, plan-same}
 

@@ -27,7 +27,7 @@ use Rattle.spans.specs.Encoding.{reportBytes}
 use Rattle.spans.specs.Plans.{scoreOn, membersOn, partOn, partsFrom, partsOf}
 use Rattle.spans.proofs.SpanRows.{span-of}
 use Rattle.spans.proofs.GroupLists.{group-parts}
-use Rattle.groups.specs.Calls.{coreNumberBytes, spanJudged, reportJudged}
+use Rattle.spans.specs.Judging.{coreNumberBytes, spanJudged, reportJudged}
 use Rattle.promises.specs.Reviews.{membersAt, atScoreZero}
 
 -- the same cores of order 1 and more on every span of T ticks

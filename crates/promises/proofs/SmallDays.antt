@@ -29,7 +29,8 @@ use Rattle.spans.proofs.Reviews.{all-reviewed}
 use Rattle.spans.specs.Plans.{scoreOn, partOn, partsFrom, partsOf}
 use Rattle.spans.specs.PlanStatement.{sumOfOrders}
 use Rattle.promises.specs.D1.{badges, d1Words}
-use Rattle.groups.specs.Calls.{reviewOf, coreNumberBytes, spanJudged, coreNumbersOf}
+use Rattle.spans.specs.Judging.{reviewOf, coreNumberBytes, spanJudged}
+use Rattle.groups.specs.Calls.{coreNumbersOf}
 
 -- as many words as D1 has, without contacts
 unfoldable pub still : List ℕ

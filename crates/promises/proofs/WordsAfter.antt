@@ -9,15 +9,18 @@ use Rattle.sets.specs.Bools.{isnt}
 use Rattle.sets.specs.Sets.{Sub, full}
 use Rattle.sets.proofs.Bools.{and-left, and-right}
 use Rattle.records.specs.Limits.{wordsFor}
-use Rattle.records.specs.Outcomes.{Outcome, success, refuseIf}
+use Rattle.records.specs.Outcomes.{Outcome, refused, success, refuseIf, andThen}
+use Rattle.log.specs.Buffers.{deliver}
+use Rattle.log.proofs.Delivering.{deliver-refused}
 use Rattle.cores.proofs.Cores.{core-same}
 use Rattle.thresholds.specs.declared.Thresholds.{Thresholds}
 use Rattle.spans.specs.SpanCores.{SpanCore}
 use Rattle.spans.specs.Plans.{partsOf, isQuery, isReviewedQuery, isParts}
 use Rattle.spans.specs.Encoding.{planBytes}
 use Rattle.spans.proofs.SpanRows.{SameDay, same-rest, fewer-head}
-use Rattle.groups.specs.Calls.{coreNumbersOf, reportOf, planJudged, planOf}
-use Rattle.groups.proofs.ReviewCall.{judged-rest}
+use Rattle.spans.specs.Judging.{reviewOf, planJudged}
+use Rattle.groups.specs.Calls.{coreNumbersOf, reportOf, planOf}
+use Rattle.spans.proofs.Judging.{review-day, review-rest}
 use Rattle.promises.proofs.SameCores.{SameSpans, span-judged, report-judged, plan-same, zero-shown}
 
 -- words with the same neighbours of n badges in T ticks have the same cores on every span, among badges of the day
@@ -36,6 +39,19 @@ plan-head n T xs ys base query h f = ap (λ (o : Outcome (List ℕ)). refuseIf (
     counted true e =
         ap (λ (ps : List SpanCore). success (planBytes n T h query ps)) (plan-same f query h (leb-true _ _ (and-left _ _ e)) (leb-true _ _ (and-right _ _ e)) ∙ zero-shown n ys base query T h)
     counted false e = refl
+
+-- words after the first n×T make no difference to a call where they make none to what it judges after the badges under review
+judged-rest : (n T : ℕ) (ws xs ys : List ℕ) (base : ℕ) (buffer : List ℕ) {o p : Outcome (List ℕ)} → length ws ≡ wordsFor n T → (Sub base (full n) → o ≡ p)
+    → deliver (andThen (reviewOf n T (ws ++ xs) base) (λ x. o)) buffer ≡ deliver (andThen (reviewOf n T (ws ++ ys) base) (λ x. p)) buffer
+judged-rest n T ws xs ys base buffer {o} {p} e f = ap (λ (r : Outcome (Unit {0})). deliver (andThen r (λ x. o)) buffer) first ∙ go (reviewOf n T (ws ++ ys) base) refl
+  where
+    first : reviewOf n T (ws ++ xs) base ≡ reviewOf n T (ws ++ ys) base
+    first = review-rest n T ws xs ys base e
+
+    go : (r : Outcome (Unit {0})) → reviewOf n T (ws ++ ys) base ≡ r
+        → deliver (andThen (reviewOf n T (ws ++ ys) base) (λ x. o)) buffer ≡ deliver (andThen (reviewOf n T (ws ++ ys) base) (λ x. p)) buffer
+    go (refused a b) g = deliver-refused _ _ buffer a b g ∙ sym (deliver-refused _ _ buffer a b g)
+    go (success x) g = ap (λ (q : Outcome (List ℕ)). deliver (andThen (reviewOf n T (ws ++ ys) base) (λ x. q)) buffer) (f (review-day n T (ws ++ ys) base g .1 .named))
 
 -- Words after the first n×T make no difference.
 module _ (n T : ℕ) (ws xs ys : List ℕ) (base : ℕ) (e : length ws ≡ wordsFor n T) where

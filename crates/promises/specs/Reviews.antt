@@ -11,7 +11,7 @@ use Rattle.thresholds.specs.declared.Thresholds.{Thresholds}
 use Rattle.spans.specs.SpanCores.{SpanCore}
 use Rattle.spans.specs.Plans.{partsOf, isQuery, isParts}
 use Rattle.spans.specs.Encoding.{planBytes}
-use Rattle.groups.specs.Calls.{spanJudged, reportJudged}
+use Rattle.spans.specs.Judging.{spanJudged, reportJudged}
 
 -- The calls before there was a review: among all n badges. "Calls on words: 10, 8, 11 first, then core numbers 12, 9; report 9; plan 13, 14, 9", and 17
 -- before the report's 9.

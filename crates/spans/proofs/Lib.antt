@@ -15,3 +15,5 @@ pub mod GroupLists
 pub mod PlanParts
 -- how many groups a day has, and how long a report is
 pub mod MostGroups
+-- what is judged before 9
+pub mod Judging

@@ -1,4 +1,4 @@
--- The spans of a day, the cores on them, and reports and plans as lists of records: what a reader has to believe. Laws are in proofs/.
+-- The spans of a day, the cores on them, reports and plans as lists of records and in bytes, and what is judged before them: what a reader has to believe. Laws are in proofs/.
 -- (No promise rests on `LongerSpans`.)
 pub mod Spans
 pub mod Contacts
@@ -9,5 +9,6 @@ pub mod Reports
 pub mod KeptGroups
 pub mod Plans
 pub mod Encoding
+pub mod Judging
 pub mod GroupStatement
 pub mod PlanStatement

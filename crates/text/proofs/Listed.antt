@@ -31,7 +31,7 @@ use Rattle.spans.specs.Encoding.{maxReportBytes, encodeCores, reportBytes}
 use Rattle.spans.proofs.Decoding.{decode-cores}
 use Rattle.spans.proofs.GroupLists.{of-groups}
 use Rattle.spans.proofs.MostGroups.{report-length, report-most}
-use Rattle.groups.proofs.ReviewCall.{all-review}
+use Rattle.spans.proofs.Judging.{all-review}
 use Rattle.groups.proofs.ReportTheorems.{core-small, report-plain}
 use Rattle.promises.proofs.ReadTheorems.{accepted-passes}
 use Rattle.promises.proofs.SameCores.{groups-same}

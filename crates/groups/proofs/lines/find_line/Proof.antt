@@ -123,8 +123,9 @@ loop-again-2 c =
     let s = asked i .span in
     let e = n .narrow-to .ensures in
     let b = unites _ (u .united .ensures) in
-    let q = symmetric-highest (rows-symmetric s e _ (united-sub s e b (p .1 .named))) (rw (h .before .intersection .ensures) at (h .highest-core .ensures)) in
-    finding-next (p .0) (p .1) (p .2) (p .3) (i .before .loop .inv) (i .loop-test .taken) (core-found (asked i) e b (record { order = q .order; members = c .to-word .ensures ∙ q .members }))
+    let t = h .before .intersection .ensures in
+    let q = symmetric-highest (rows-symmetric s e _ (united-sub s e b (p .1 .named) t)) (h .highest-core .ensures) in
+    finding-next (p .0) (p .1) (p .2) (p .3) (i .before .loop .inv) (i .loop-test .taken) (core-found (asked i) e b t (record { order = q .order; members = c .to-word .ensures ∙ q .members }))
 
 same-length : tie.Need-same-length Inv-loop μ-loop
 same-length c = c .before .loop .inv .found .orders-size

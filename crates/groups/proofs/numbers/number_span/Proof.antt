@@ -13,8 +13,9 @@ use Rattle.records.proofs.WithinLimits.{limits-of}
 use Rattle.log.specs.Buffers.{deliver}
 use Rattle.cores.specs.Rows.{coreNumbers}
 use Rattle.spans.specs.Spans.{SpanOfDay}
-use Rattle.groups.specs.Calls.{coreNumberBytes}
-use Rattle.groups.proofs.NumbersCall.{judged-yes, judged-no, numbers-found}
+use Rattle.spans.specs.Judging.{coreNumberBytes}
+use Rattle.spans.proofs.Judging.{judged-yes, judged-no}
+use Rattle.groups.proofs.RowCores.{numbers-found}
 use Rattle.groups.proofs.numbers.number_span.Statement.{statement}
 use Rattle.groups.proofs.numbers.number_span.Tie as tie
 

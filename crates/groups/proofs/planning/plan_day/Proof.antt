@@ -14,7 +14,8 @@ use Rattle.records.proofs.WithinLimits.{limits-of}
 use Rattle.log.proofs.Delivering.{leaves-refused}
 use Rattle.spans.specs.SpanCores.{SpanCore}
 use Rattle.spans.specs.Encoding.{planBytes}
-use Rattle.groups.proofs.PlanCall.{judged-query, judged-reviewed, judged-parts, PlanEnds, planned-short, planned-fits, table-ends}
+use Rattle.spans.proofs.Judging.{judged-query, judged-reviewed, judged-parts}
+use Rattle.groups.proofs.PlanCall.{PlanEnds, planned-short, planned-fits, table-ends}
 use Rattle.groups.proofs.planning.plan_day.Statement.{statement}
 use Rattle.groups.proofs.planning.plan_day.Tie as tie
 

@@ -8,7 +8,7 @@ use Rattle.sets.specs.Members.{members}
 use Rattle.records.specs.Outcomes.{Outcome}
 use Rattle.log.specs.Buffers.{deliver}
 use Rattle.log.proofs.Delivering.{leaves-refused}
-use Rattle.groups.proofs.ReportTheorems.{judged-range, judged-report}
+use Rattle.spans.proofs.Judging.{judged-range, judged-report}
 use Rattle.groups.proofs.reporting.report_day.Statement.{statement}
 use Rattle.groups.proofs.reporting.report_day.Tie as tie
 

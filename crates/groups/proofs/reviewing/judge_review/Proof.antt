@@ -6,7 +6,7 @@ use Rattle.records.proofs.WithinLimits.{limits-of}
 use Rattle.days.specs.Calls.{checkOf}
 use Rattle.days.proofs.Checks.{check-passed}
 use Rattle.checks.specs.Answers.{checkedOutcome}
-use Rattle.groups.proofs.ReviewCall.{words-refused, words-passed}
+use Rattle.spans.proofs.Judging.{words-refused, words-passed}
 use Rattle.groups.proofs.reviewing.judge_review.Statement.{statement}
 use Rattle.groups.proofs.reviewing.judge_review.Tie as tie
 
