@@ -1,4 +1,4 @@
--- Laws of the definitions in specs/, from the bottom up. Other crates cite ReportTheorems alone.
+-- Laws of the definitions in specs/, from the bottom up. Other crates cite ReportTheorems and PlanTheorems.
 
 -- the rows of spans, and the loop that narrows them
 pub mod TickRows

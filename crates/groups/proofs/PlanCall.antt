@@ -16,11 +16,11 @@ use Rattle.cuts.proofs.Sums.{best-ends, ends-same}
 use Rattle.cuts.proofs.EndsOf.{ends-of}
 use Rattle.spans.specs.Plans.{scoreOn, partsFrom, partsOf}
 use Rattle.spans.specs.Encoding.{planBytes}
-use Rattle.spans.proofs.Judging.{judged-plan}
+use Rattle.spans.specs.Judging.{planJudged}
 use Rattle.spans.proofs.MostGroups.{plan-length}
 use Rattle.spans.proofs.PlanParts.{parts-length}
+use Rattle.spans.proofs.Judging.{judged-plan}
 use Rattle.groups.specs.Scoring.{Scores}
-use Rattle.spans.specs.Judging.{planJudged}
 
 -- ends that cut a day into h runs, and into the parts of the plan
 pub record PlanEnds (n T : ℕ) (ws : List ℕ) (base query h : ℕ) (ends : List ℕ) : Type 0 where

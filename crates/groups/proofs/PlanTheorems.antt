@@ -15,13 +15,12 @@ use Rattle.log.proofs.Delivering.{deliver-passed, deliver-short, deliver-fits, 
 use Rattle.spans.specs.Plans.{partsOf, isReviewedQuery, isParts}
 use Rattle.spans.specs.Encoding.{planBytes, planRecords}
 use Rattle.spans.specs.PlanStatement.{PlanStatement, PlanAsked}
+use Rattle.spans.specs.Judging.{reviewOf, planJudged}
 use Rattle.spans.proofs.Decoding.{plan-said}
 use Rattle.spans.proofs.PlanParts.{parts-stated, plan-count, plan-small}
-use Rattle.spans.specs.Judging.{reviewOf, planJudged}
+use Rattle.spans.proofs.Judging.{review-passed, review-day, judged-plan}
 use Rattle.groups.specs.Calls.{planOf}
 use Rattle.groups.specs.ShiftPlans.{PlansShifts, PlanShown}
-use Rattle.spans.proofs.Judging.{review-passed, review-day}
-use Rattle.spans.proofs.Judging.{judged-plan}
 
 -- the bytes of a plan that was asked for say its parts
 parts-said : {n T : ℕ} {ws : List ℕ} {base query h : ℕ} → PlanAsked n T ws base query h → planRecords (planBytes n T h query (partsOf n T ws base query h)) ≡ partsOf n T ws base query h
@@ -29,21 +28,23 @@ parts-said {n} {T} {ws} {base} {query} {h} a =
     let l = limits-of (a .lent .limits) in
     plan-said n T h query (partsOf n T ws base query h) (plan-small a) (plan-count a) (omega (arith, a .enough, l .short))
 
+-- it passes every judgement before 9
+pub plan-passes : {n T : ℕ} {ws : List ℕ} {base query h : ℕ} → PlanAsked n T ws base query h → (buffer : List ℕ)
+    → planOf n T ws base query h buffer ≡ deliver (success (planBytes n T h query (partsOf n T ws base query h))) buffer
+unfolding planOf
+plan-passes {n} {T} {ws} {base} {query} {h} a buffer =
+    deliver-passed _ _ buffer tt (review-passed n T ws base (a .lent) (a .reviewed))
+    ∙ ap (λ (o : Outcome (List ℕ)). deliver o buffer) (judged-plan n T ws base query h (is-sub-in (sub-trans (a .named) (a .reviewed .named))) (is-sub-in (a .named)) (a .some) (a .enough))
+
 -- The call keeps its promise.
 pub plans-shifts : PlansShifts planOf
-unfolding planOf
 plans-shifts n T ws base query h buffer a = record {
   parts = partsOf n T ws base query h;
   stated = parts-stated a;
   said = parts-said a;
-  succeeds = λ l. passes ∙ deliver-fits _ buffer l;
-  measures = λ l. passes ∙ deliver-short _ buffer l;
+  succeeds = λ l. plan-passes a buffer ∙ deliver-fits _ buffer l;
+  measures = λ l. plan-passes a buffer ∙ deliver-short _ buffer l;
 }
-  where
-    passes : planOf n T ws base query h buffer ≡ deliver (success (planBytes n T h query (partsOf n T ws base query h))) buffer
-    passes =
-        deliver-passed _ _ buffer tt (review-passed n T ws base (a .lent) (a .reviewed))
-        ∙ ap (λ (o : Outcome (List ℕ)). deliver o buffer) (judged-plan n T ws base query h (is-sub-in (sub-trans (a .named) (a .reviewed .named))) (is-sub-in (a .named)) (a .some) (a .enough))
 
 -- So whatever was lent: where the call succeeds, what it was asked for was a plan, and the bytes in front say parts of which the plan statement
 -- holds.

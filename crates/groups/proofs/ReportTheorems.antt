@@ -27,15 +27,15 @@ use Rattle.thresholds.specs.Ranges.{plain, inRange}
 use Rattle.spans.specs.KeptGroups.{kept}
 use Rattle.spans.specs.Encoding.{reportBytes, reportRecords}
 use Rattle.spans.specs.GroupStatement.{GroupStatement}
+use Rattle.spans.specs.Judging.{reviewOf, reportJudged}
 use Rattle.spans.proofs.Decoding.{report-said}
 use Rattle.spans.proofs.MostGroups.{groups-few}
 use Rattle.spans.proofs.KeptRecords.{of-kept, kept-le}
 use Rattle.spans.proofs.GroupLists.{of-groups, groups-stated, kept-plain}
+use Rattle.spans.proofs.Judging.{review-passed, review-day, judged-range, judged-report}
 use Rattle.groups.specs.Appending.{keptBytes}
-use Rattle.spans.specs.Judging.{reviewOf, reportJudged}
 use Rattle.groups.specs.Calls.{reportOf}
 use Rattle.groups.specs.GroupReports.{ReportsGroups, Reported}
-use Rattle.spans.proofs.Judging.{review-passed, review-day, judged-range, judged-report}
 
 -- the members of a core among badges of the day are below 2 ^ n
 pub core-small : (n : ℕ) (ws : List ℕ) (base k first last : ℕ) → n ≤ capacity → Sub base (full n) → coreOn n ws base k first last < 2 ^ capacity

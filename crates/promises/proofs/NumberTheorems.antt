@@ -19,11 +19,10 @@ use Rattle.cores.proofs.Orders.{member-pos, number-of, number-by-sets, le-by-or
 use Rattle.spans.specs.Spans.{SpanOfDay, spanNeighbours}
 use Rattle.spans.specs.Contacts.{OfOrder}
 use Rattle.spans.specs.Reviews.{Review}
-use Rattle.spans.proofs.OrderSets.{order-cohesive, cohesive-order}
 use Rattle.spans.specs.Judging.{coreNumberBytes}
+use Rattle.spans.proofs.OrderSets.{order-cohesive, cohesive-order}
+use Rattle.spans.proofs.Judging.{review-passed, judged-yes}
 use Rattle.groups.specs.Calls.{coreNumbersOf}
-use Rattle.spans.proofs.Judging.{review-passed}
-use Rattle.spans.proofs.Judging.{judged-yes}
 use Rattle.promises.specs.CoreNumbers.{AreCoreNumbers, GivesCoreNumbers}
 
 module _ {n T : ℕ} {ws : List ℕ} {base first last : ℕ} (d : SpanOfDay n T ws first last) (r : Review n base) where

@@ -9,7 +9,7 @@ use native.Mathlib.Omega.{arith}
 use Rattle.sets.specs.Bools.{_and_, isnt}
 use Rattle.sets.specs.Sets.{In, Sub, has, intersection, size, full}
 use Rattle.sets.proofs.Bools.{and-in, and-left, and-right}
-use Rattle.sets.proofs.Sets.{in-test, has-test, some, of-intersection-left, of-full, sub-refl, sub-antisym, sub-trans, is-sub-in}
+use Rattle.sets.proofs.Sets.{in-test, has-test, some, of-intersection-left, of-full, sub-refl, sub-antisym, sub-trans}
 use Rattle.sets.proofs.Size.{size-none}
 use Rattle.records.specs.Outcomes.{Outcome, success, refuseIf, andThen}
 use Rattle.days.specs.Days.{LentDay, neighbours, adjacent}
@@ -27,12 +27,12 @@ use Rattle.spans.specs.SpanCores.{SpanCore}
 use Rattle.spans.specs.Plans.{partsOf, isQuery, isReviewedQuery}
 use Rattle.spans.specs.Encoding.{planBytes}
 use Rattle.spans.specs.PlanStatement.{PlanAsked}
+use Rattle.spans.specs.Judging.{reviewOf, planJudged}
 use Rattle.spans.proofs.SpanRows.{in-span, of-span}
 use Rattle.spans.proofs.Reviews.{all-reviewed}
-use Rattle.spans.specs.Judging.{reviewOf, planJudged}
-use Rattle.groups.specs.Calls.{coreNumbersOf, reportOf, planOf}
 use Rattle.spans.proofs.Judging.{review-passed, all-review}
-use Rattle.spans.proofs.Judging.{judged-plan}
+use Rattle.groups.proofs.PlanTheorems.{plan-passes}
+use Rattle.groups.specs.Calls.{coreNumbersOf, reportOf, planOf}
 use Rattle.promises.specs.Reviews.{coreNumbersOfAll, reportOfAll, planJudgedOfAll, planOfAll, leavingOut, atScoreZero}
 use Rattle.promises.proofs.SameCores.{SameSpans, span-judged, report-judged, plan-same}
 
@@ -158,22 +158,16 @@ module _ {n T : ℕ} {ws : List ℕ} {base : ℕ} (d : LentDay n T ws) (r : Revi
 -- and a plan is that of this day, but for the members at score 0: there are the same parts, in which the reviewed set stands in the place of all n badges
 -- where the score is 0.
 module _ {n T : ℕ} {ws : List ℕ} {base query h : ℕ} (a : PlanAsked n T ws base query h) (buffer : List ℕ) where
-  planned : (ys : List ℕ) (all : ℕ) → PlanAsked n T ys all query h → planOf n T ys all query h buffer ≡ deliver (success (planBytes n T h query (partsOf n T ys all query h))) buffer
-  unfolding planOf
-  planned ys all b =
-      deliver-passed _ _ buffer tt (review-passed n T ys all (b .lent) (b .reviewed))
-      ∙ ap (λ (o : Outcome (List ℕ)). deliver o buffer) (judged-plan n T ys all query h (is-sub-in (sub-trans (b .named) (b .reviewed .named))) (is-sub-in (b .named)) (b .some) (b .enough))
-
   pub plan-left-out : let parts = partsOf n T (leavingOut n T ws base) (full n) query h in
       (planOf n T (leavingOut n T ws base) (full n) query h buffer ≡ deliver (success (planBytes n T h query parts)) buffer)
       × (planOf n T ws base query h buffer ≡ deliver (success (planBytes n T h query (map (atScoreZero base) parts))) buffer)
   plan-left-out = (
-    planned _ _ (record {
+    plan-passes (record {
       lent = left-lent (a .lent) (a .reviewed);
       reviewed = all-reviewed (a .lent);
       named = sub-trans (a .named) (a .reviewed .named);
       some = a .some;
       enough = a .enough;
-    }),
-    planned _ _ a ∙ ap (λ (ps : List SpanCore). deliver (success (planBytes n T h query ps)) buffer) (plan-same (left-spans (a .lent) (a .reviewed)) query h (a .some) (a .enough)),
+    }) buffer,
+    plan-passes a buffer ∙ ap (λ (ps : List SpanCore). deliver (success (planBytes n T h query ps)) buffer) (plan-same (left-spans (a .lent) (a .reviewed)) query h (a .some) (a .enough)),
   )

@@ -25,9 +25,9 @@ use Rattle.thresholds.specs.Ranges.{inRange}
 use Rattle.spans.specs.KeptGroups.{kept}
 use Rattle.spans.specs.Encoding.{reportBytes}
 use Rattle.spans.specs.Plans.{scoreOn, membersOn, partOn, partsFrom, partsOf}
+use Rattle.spans.specs.Judging.{coreNumberBytes, spanJudged, reportJudged}
 use Rattle.spans.proofs.SpanRows.{span-of}
 use Rattle.spans.proofs.GroupLists.{group-parts}
-use Rattle.spans.specs.Judging.{coreNumberBytes, spanJudged, reportJudged}
 use Rattle.promises.specs.Reviews.{membersAt, atScoreZero}
 
 -- the same cores of order 1 and more on every span of T ticks

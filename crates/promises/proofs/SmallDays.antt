@@ -28,8 +28,8 @@ use Rattle.spans.specs.Reviews.{isReview}
 use Rattle.spans.proofs.Reviews.{all-reviewed}
 use Rattle.spans.specs.Plans.{scoreOn, partOn, partsFrom, partsOf}
 use Rattle.spans.specs.PlanStatement.{sumOfOrders}
-use Rattle.promises.specs.D1.{badges, d1Words}
 use Rattle.spans.specs.Judging.{reviewOf, coreNumberBytes, spanJudged}
+use Rattle.promises.specs.D1.{badges, d1Words}
 use Rattle.groups.specs.Calls.{coreNumbersOf}
 
 -- as many words as D1 has, without contacts

@@ -17,10 +17,10 @@ use Rattle.thresholds.specs.declared.Thresholds.{Thresholds}
 use Rattle.spans.specs.SpanCores.{SpanCore}
 use Rattle.spans.specs.Plans.{partsOf, isQuery, isReviewedQuery, isParts}
 use Rattle.spans.specs.Encoding.{planBytes}
-use Rattle.spans.proofs.SpanRows.{SameDay, same-rest, fewer-head}
 use Rattle.spans.specs.Judging.{reviewOf, planJudged}
-use Rattle.groups.specs.Calls.{coreNumbersOf, reportOf, planOf}
+use Rattle.spans.proofs.SpanRows.{SameDay, same-rest, fewer-head}
 use Rattle.spans.proofs.Judging.{review-day, review-rest}
+use Rattle.groups.specs.Calls.{coreNumbersOf, reportOf, planOf}
 use Rattle.promises.proofs.SameCores.{SameSpans, span-judged, report-judged, plan-same, zero-shown}
 
 -- words with the same neighbours of n badges in T ticks have the same cores on every span, among badges of the day

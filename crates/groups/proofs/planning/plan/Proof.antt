@@ -7,8 +7,8 @@ use Rattle.log.specs.Buffers.{Delivered}
 use Rattle.log.proofs.Delivering.{deliver-refused, deliver-passed}
 use Rattle.groups.specs.Refusals.{judgedOutcome}
 use Rattle.spans.specs.Judging.{reviewOf}
-use Rattle.groups.specs.Calls.{planOf}
 use Rattle.spans.proofs.Judging.{review-day}
+use Rattle.groups.specs.Calls.{planOf}
 use Rattle.groups.proofs.PlanTheorems.{plan-shown}
 use Rattle.groups.proofs.planning.plan.Statement.{statement}
 use Rattle.groups.proofs.planning.plan.Tie as tie

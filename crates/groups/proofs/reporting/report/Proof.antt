@@ -7,8 +7,8 @@ use Rattle.log.specs.Buffers.{Delivered}
 use Rattle.log.proofs.Delivering.{deliver-refused, deliver-passed}
 use Rattle.groups.specs.Refusals.{judgedOutcome}
 use Rattle.spans.specs.Judging.{reviewOf}
-use Rattle.groups.specs.Calls.{reportOf}
 use Rattle.spans.proofs.Judging.{review-day}
+use Rattle.groups.specs.Calls.{reportOf}
 use Rattle.groups.proofs.ReportTheorems.{reported}
 use Rattle.groups.proofs.reporting.report.Statement.{statement}
 use Rattle.groups.proofs.reporting.report.Tie as tie
