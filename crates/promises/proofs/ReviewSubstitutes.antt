@@ -18,7 +18,7 @@ use Rattle.spans.specs.SpanCores.{SpanCore, Mem}
 use Rattle.spans.specs.Reports.{groupsOf}
 use Rattle.spans.specs.KeptGroups.{kept}
 use Rattle.spans.specs.Plans.{partsOf}
-use Rattle.spans.specs.Encoding.{reportBytes, planRecords}
+use Rattle.spans.specs.Encoding.{reportBytes, reportRecords, planRecords}
 use Rattle.spans.specs.GroupStatement.{Has, ReportAsked}
 use Rattle.spans.specs.PlanStatement.{Runs, none, run, sumOfOrders, PlanAsked}
 use Rattle.spans.proofs.Reviews.{review-of, all-reviewed}
@@ -46,7 +46,7 @@ others-plain : ReportAsked 4 3 d1Words others plain
 unfolding computing
 others-plain = record { lent = d1-lent; reviewed = reviewed; range = refl }
 
--- badge 2 is one of all four, and of the triple, and none of them
+-- badge 2 is one of the triple and of all four badges, and none of those under review
 not-two : In others 2 → ⊥
 unfolding computing
 not-two = out-test others 2 refl
@@ -93,7 +93,7 @@ module _ (f : ℕ → ℕ → List ℕ → Thresholds → List ℕ → Delivered
   pub report-ignoring : ⊥
   unfolding bytes
   report-ignoring =
-      let same : groups 4 3 d1Words (full 4) plain ≡ groups 4 3 d1Words others plain = sym (p .said 4 3 d1Words (full 4) plain d1-plain) ∙ ap Rattle.spans.specs.Encoding.reportRecords same-bytes ∙ p .said 4 3 d1Words others plain others-plain in
+      let same : groups 4 3 d1Words (full 4) plain ≡ groups 4 3 d1Words others plain = sym (p .said 4 3 d1Words (full 4) plain d1-plain) ∙ ap reportRecords same-bytes ∙ p .said 4 3 d1Words others plain others-plain in
       let there : Mem triple (groups 4 3 d1Words others plain) = rw same at (d1-triple _ (p .stated 4 3 d1Words (full 4) plain d1-plain)) in
       not-two (p .stated 4 3 d1Words others plain others-plain .members triple there .within .at 2 two-of-triple)
 
