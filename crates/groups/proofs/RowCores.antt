@@ -11,10 +11,9 @@ use Rattle.sets.proofs.Sets.{some, in-intersection, of-intersection-left, of-in
 use Rattle.sets.proofs.Size.{size-none}
 use Rattle.sets.proofs.Tables.{tabulate-take, tabulate-same}
 use Rattle.records.proofs.WithinLimits.{limits-of}
-use Rattle.cores.specs.Graphs.{degree}
+use Rattle.cores.specs.Graphs.{degree, Symmetric}
 use Rattle.cores.specs.Cores.{core}
 use Rattle.cores.specs.Rows.{graph, coreNumbers}
-use Rattle.innermost.specs.Columns.{Symmetric}
 use Rattle.cores.proofs.Degrees.{FewerPairs, pairs-refl}
 use Rattle.cores.proofs.Cores.{core-sub, core-cohesive, core-largest, core-mono, core-same}
 use Rattle.cores.proofs.Orders.{SameCores, number-among}

@@ -9,11 +9,11 @@ use Rattle.sets.specs.Sets.{bit, In, Sub, has, intersection, difference, only, 
 use Rattle.sets.proofs.Bits.{bit-lt}
 use Rattle.sets.proofs.Sets.{not-in-none, in-test, has-test, in-intersection, of-intersection-left, of-intersection-right, in-difference, of-difference, in-only, of-only, in-filter, of-filter, in-full, of-full, ext}
 use Rattle.sets.proofs.Size.{size-none, size-mono, size-split, size-only}
-use Rattle.cores.specs.Graphs.{degree}
+use Rattle.cores.specs.Graphs.{degree, Symmetric}
 use Rattle.cores.specs.Cores.{core}
 use Rattle.cores.specs.Orders.{HighestFound}
 use Rattle.cores.specs.Rows.{graph, IsHighest}
-use Rattle.innermost.specs.Columns.{transposed, inDegree, Symmetric}
+use Rattle.innermost.specs.Columns.{transposed, inDegree}
 use Rattle.cores.proofs.Degrees.{FewerPairs}
 use Rattle.cores.proofs.Cores.{core-same}
 use Rattle.cores.proofs.Orders.{found-among}

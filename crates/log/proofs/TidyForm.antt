@@ -1,17 +1,17 @@
 -- The tidy list is the tidy form, and the only one: which records are in it, their order, that no other list has them in this order,
 -- and what the list means.
-use mathlib.Core.Path.{_≡_, refl, sym, ap, ap₂, _∙_, subst}
+use mathlib.Core.Path.{_≡_, refl, sym, ap, _∙_, subst}
 use mathlib.Core.Bool.{Bool, true, false}
-use mathlib.Core.List.{List, _∷_, List·Memᴰ·head, List·Memᴰ·tail, List·Memᴰ·not-nil, List·Memᴰ·cases-cons, List·Memᴰ·eq-of-singleton}
+use mathlib.Core.List.{List, List·Memᴰ·head, List·Memᴰ·eq-of-singleton}
 use mathlib.Core.Logic.{_⊎_, inl, inr, _↔_}
 use Prim.Native.Nat.{ℕ, _≤_, _<_}
 use native.Mathlib.Nat.{eq-or-lt-of-le}
 use native.Mathlib.Omega.{arith}
 use lib.Dec.{ltb}
 use borrow.Author.Tests.{ltb-true, ltb-false, lt-ltb}
-use Rattle.sets.specs.Tables.{Pairwise, nothing, followed}
+use Rattle.sets.specs.Tables.{Pairwise}
 use Rattle.sets.proofs.Concat.{in-concat, of-concat, in-keep, of-keep}
-use Rattle.sets.proofs.Pairwise.{pairwise-one, pairwise-concat, pairwise-keep}
+use Rattle.sets.proofs.Pairwise.{pairwise-one, pairwise-concat, pairwise-keep, pairwise-same}
 use Rattle.records.specs.declared.record.Record.{Record}
 use Rattle.records.specs.declared.record.Record.the-variants.{Header, Contact, End}
 use Rattle.records.specs.Judging.{validContact}
@@ -110,37 +110,9 @@ before-asymmetric {c} {d} p q =
     let f : largerOf c ≡ largerOf d = omega (arith, z .0, w .0) in
     omega (arith, z .1 f, w .1 (sym f))
 
--- a record that is in a sorted list's tail is not its head
-head-once : {c d : Record} {cs : List Record} → ((x : Record) → Mem x cs → Before c x) → Mem d cs → d ≡ c → ⊥
-head-once {c} {d} f m e = let b : Before c c = subst (λ (x : Record). Before c x) e (f d m) in before-asymmetric b b
-
--- sorted lists with the same records are equal
-same-sorted : {xs ys : List Record} → Pairwise Before xs → Pairwise Before ys → ((x : Record) → Mem x xs ↔ Mem x ys) → xs ≡ ys
-same-sorted nothing nothing same = refl
-same-sorted nothing (followed {x = d} g q) same = absurd (List·Memᴰ·not-nil (same d .1 (List·Memᴰ·head refl)))
-same-sorted (followed {x = c} f p) nothing same = absurd (List·Memᴰ·not-nil (same c .0 (List·Memᴰ·head refl)))
-same-sorted (followed {x = c} {xs = cs} f p) (followed {x = d} {xs = ds} g q) same =
-    ap₂ _∷_ heads (same-sorted p q (λ x. (tails f heads (λ y. same y .0) x, tails g (sym heads) (λ y. same y .1) x)))
-  where
-    heads : c ≡ d
-    heads = go (List·Memᴰ·cases-cons (same c .0 (List·Memᴰ·head refl))) (List·Memᴰ·cases-cons (same d .1 (List·Memᴰ·head refl)))
-      where
-        go : (c ≡ d) ⊎ Mem c ds → (d ≡ c) ⊎ Mem d cs → c ≡ d
-        go (inl e) k = e
-        go (inr m) (inl e) = sym e
-        go (inr m) (inr k) = absurd (before-asymmetric (f d k) (g c m))
-
-    tails : {c d : Record} {cs ds : List Record} → ((x : Record) → Mem x cs → Before c x) → c ≡ d
-        → ((x : Record) → Mem x (c ∷ cs) → Mem x (d ∷ ds)) → (x : Record) → Mem x cs → Mem x ds
-    tails {c} {d} {cs} {ds} f e same x m = go (List·Memᴰ·cases-cons (same x (List·Memᴰ·tail m)))
-      where
-        go : (x ≡ d) ⊎ Mem x ds → Mem x ds
-        go (inl h) = absurd (head-once f m (h ∙ sym e))
-        go (inr k) = k
-
 -- the tidy form of a relation is one list
 pub tidy-unique : {n T : ℕ} {meet : ℕ → ℕ → ℕ → Type 0} (xs ys : List Record) → IsTidy n T meet xs → IsTidy n T meet ys → xs ≡ ys
-tidy-unique xs ys p q = same-sorted (p .sorted) (q .sorted) (λ c. (λ m. q .exactly c .1 (p .exactly c .0 m), λ m. p .exactly c .1 (q .exactly c .0 m)))
+tidy-unique xs ys p q = pairwise-same (λ c d. before-asymmetric) (p .sorted) (q .sorted) (λ c. (λ m. q .exactly c .1 (p .exactly c .0 m), λ m. p .exactly c .1 (q .exactly c .0 m)))
 
 -- and it depends on the badges below n and the ticks before T alone
 is-run-meet : (n T : ℕ) (meet meet′ : ℕ → ℕ → ℕ → Type 0) → ((t u v : ℕ) → t < T → u < n → v < n → meet t u v ↔ meet′ t u v)

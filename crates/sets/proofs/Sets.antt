@@ -258,6 +258,14 @@ sub-antisym = bin-ind (λ (s : ℕ). (t : ℕ) → Sub s t → Sub t s → s ≡
 pub ext : (s t : ℕ) → ((u : ℕ) → In s u → In t u) → ((u : ℕ) → In t u → In s u) → s ≡ t
 ext s t f g = sub-antisym s t (record { at = f }) (record { at = g })
 
+-- a set and the empty one together
+pub union-none : (s : ℕ) → union s 0 ≡ s
+union-none s = ext _ s (λ u i. go u (of-union s 0 u i)) (in-union-left s 0)
+  where
+    go : (u : ℕ) → In s u ⊎ In 0 u → In s u
+    go u (inl i) = i
+    go u (inr i) = absurd (not-in-none u i)
+
 -- the symmetric difference with the same set twice changes nothing
 pub symmetric-twice : (s t : ℕ) → symmetricDifference (symmetricDifference s t) t ≡ s
 unfolding symmetricDifference

@@ -1,0 +1,72 @@
+// The circles of one graph, given as one row a badge: the members of a set, split by who is joined to whom through chains of pairs between members.
+//
+// A caller walks all circles of a set as `count_circles` does: it takes the circle of the smallest member, and goes on with the other members until
+// none is left. So each member's row is looked at once at most.
+ghost use mathlib.Core.Path.{_≡_};
+ghost use mathlib.Core.List.{_∷_, []};
+ghost use Prim.Native.Nat.{_+_, _≤_};
+ghost use lib.ListN.{length};
+ghost use Rattle.sets.specs.Members.{capacity, members};
+ghost use Rattle.cores.specs.Rows.{graph};
+ghost use Rattle.circles.specs.Circles.{firstCircle, circles, atLeast};
+use sets::BadgeSet;
+
+// How many circles a set has, and how many of them have members enough.
+pub struct Counted {
+    pub all: usize,
+    pub large: usize,
+}
+
+// The circle of the smallest member of a set; the empty set has none. Of the members that are reached, the row of one after the other is looked at,
+// until there is none whose row was not, or nobody is left to reach.
+pub fn circle_of(rows: &[u64; 64], s: BadgeSet) -> BadgeSet
+    ensures { λ r. ⌜ members r ≡ firstCircle (graph (now (rows .entry))) (members s) ⌝ }
+{
+    let mut unseen = s;
+    let mut unreached = s.rest();
+    loop {
+        if unreached.is_empty() {
+            return s;
+        }
+        let open = unseen.difference(unreached);
+        if open.is_empty() {
+            return s.difference(unreached);
+        }
+        let u = open.smallest();
+        let left = unreached.difference(BadgeSet::from_word(rows[u]));
+        unreached = left;
+        let rest = unseen.without(u);
+        unseen = rest;
+    }
+}
+
+// One more where a circle has members enough.
+fn tally(count: usize, circle: BadgeSet, least: usize) -> usize
+    requires { ⌜ count ≤ capacity ⌝ }
+    ensures { λ r. ⌜ r ≡ count + length (atLeast least (members circle ∷ [])) ⌝ }
+{
+    if circle.size() < least {
+        count
+    } else {
+        count + 1
+    }
+}
+
+// How many circles a set has, and how many of them have at least so many members.
+pub fn count_circles(rows: &[u64; 64], s: BadgeSet, least: usize) -> Counted
+    ensures all { λ r. ⌜ r .all ≡ length (circles (graph (now (rows .entry))) (members s)) ⌝ }
+    ensures large { λ r. ⌜ r .large ≡ length (atLeast least (circles (graph (now (rows .entry))) (members s))) ⌝ }
+{
+    let mut all: usize = 0;
+    let mut large: usize = 0;
+    let mut left = s;
+    while !left.is_empty() {
+        let circle = circle_of(rows, left);
+        let tallied = tally(large, circle, least);
+        large = tallied;
+        all += 1;
+        let rest = left.difference(circle);
+        left = rest;
+    }
+    Counted { all, large }
+}
