@@ -12,8 +12,7 @@
  *   - `answer` points to five numbers.
  *
  * A call uses the caller's stack, as it was measured (tests/stack-use.sh) and not proved: ward_read and ward_join under 1 KB, ward_core_numbers 2,
- * ward_plan 29, ward_write 49, ward_tidy 49, ward_report 62. ward_report makes its answer in `out` where this has room for a group on each span of
- * the day, 10 + 13 * (ticks * (ticks + 1) / 2) bytes; with less it takes time to clear memory of its own.
+ * ward_plan 29, ward_write 49, ward_tidy 49, ward_report 76.
  *
  * Every call writes all five numbers of `answer`. On a refusal the first is its number and the second its byte offset, and the others are
  * 0; a refused call changes nothing else, except that ward_tidy refused by WARD_BUFFER_TOO_SHORT leaves the day in its work words. On
@@ -29,11 +28,18 @@
 extern "C" {
 #endif
 
-/* Sizes that always suffice: words of a day, work words of ward_join, bytes of a log, of a report and of a plan, core numbers of a span. */
+/* Sizes that always suffice: words of a day, work words of ward_join, bytes of a log, of a report and of a plan, core numbers of a span.
+ *
+ * A report has a record of 13 bytes for each group, and 10 bytes more. Of each order k it shows at most as many cores as the day has ticks, since
+ * none of their spans contains another; and a core's circles, which have a record each, have k + 1 members or more. So
+ *     10 + 13 * ticks * (badges / 2 + badges / 3 + .. + badges / badges)
+ * bytes, each division rounded down, always suffice for a day of so many badges and ticks: WARD_REPORT_BYTES, which is 10 + 13 * 96 * 216, for every
+ * day. Hardly any report is so long. Lend what is at hand, say 4 KB or 64 KB. Where ward_report refuses it by WARD_BUFFER_TOO_SHORT, which changes no
+ * byte of it, make the same call again with WARD_REPORT_BYTES, or as many bytes as that sum: then it cannot be refused so. */
 #define WARD_WORDS 6144
 #define WARD_JOIN_WORK_WORDS (4 * WARD_WORDS)
 #define WARD_LOG_BYTES 48010
-#define WARD_REPORT_BYTES 60538
+#define WARD_REPORT_BYTES 269578
 #define WARD_PLAN_BYTES 1267
 #define WARD_CORE_NUMBERS 64
 
@@ -105,19 +111,22 @@ void ward_write(const uint64_t *words, size_t words_len, size_t badges, size_t t
 void ward_core_numbers(const uint64_t *words, size_t words_len, size_t badges, size_t ticks, uint64_t review, size_t first, size_t last, uint8_t *out,
                        size_t out_len, uint64_t answer[5]);
 
-/* The report of the day's groups, the maximal span-cores, by first tick and then last tick: RH, badges, ticks; for each group GR, order, first tick,
- * last tick, members as a set of 8 bytes, the lowest first; ED and their number in 4 bytes. Which cores are maximal is judged among those of the
- * reviewed badges alone: with fewer badges under review a group may be smaller or gone, and one may appear that a core with the others kept out. Of
- * the groups the report then keeps those that last least_ticks ticks or more, are of order least_order or more and have least_members members or more.
- * 1, 1 and 2 keep every group. Whatever badges and ticks are, least_ticks may be 1 to 96, least_order 1 to 63 and least_members 2 to 64. Refused by 10,
- * 8, 11, 20, 17, 9. */
+/* The report of the day's groups: RH, badges, ticks; for each group GR, order, first tick, last tick, members as a set of 8 bytes, the lowest first;
+ * ED and the number of groups in 4 bytes. The groups are the circles of the maximal span-cores: the members of each such core split by who is joined
+ * to whom through chains of pairs, of members alone, that stay in contact throughout its span. So two teams that never met are two groups, each with
+ * the order and the span of the core that they both are in. Groups are ordered by first tick, last tick and smallest member. Which cores are maximal
+ * is judged by their order and span, before they are split, and among the cores of the reviewed badges alone: with fewer badges under review a group
+ * may be smaller or gone, and one may appear that a core with the others kept out. Of the groups the report then keeps those that last least_ticks
+ * ticks or more, are of order least_order or more and have least_members members or more. Members are counted in each group: of one core's groups
+ * some may be kept and others not. 1, 1 and 2 keep every group. Whatever badges and ticks are, least_ticks may be 1 to 96, least_order 1 to 63 and
+ * least_members 2 to 64. Refused by 10, 8, 11, 20, 17, 9. */
 void ward_report(const uint64_t *words, size_t words_len, size_t badges, size_t ticks, uint64_t review, size_t least_ticks, size_t least_order,
                  size_t least_members, uint8_t *out, size_t out_len, uint64_t answer[5]);
 
-/* The plan of the shift around a query, a set of reviewed badges, and perhaps of none: cuts the day into so many parts with the greatest sum of scores,
- * and of such cuttings it is the one whose list of last ticks comes first, compared number by number. PH, badges, ticks, parts, query in 8 bytes; for
- * each part PT, score, first tick, last tick, members; ED and their number. A part of score 0 shows all badges under review. Refused by 10, 8, 11, 20,
- * 13, 21, 14, 9; the empty query never by 21. */
+/* The plan of the shift around a query, a set of reviewed badges, and perhaps of none: cuts the day into so many parts with the greatest sum of
+ * scores, and of such cuttings it is the one whose list of last ticks comes first, compared number by number. PH, badges, ticks, parts, query in 8
+ * bytes; for each part PT, score, first tick, last tick, members; ED and their number. A part's members are a whole core, however many circles it
+ * has; at score 0 they are all badges under review. Refused by 10, 8, 11, 20, 13, 21, 14, 9; the empty query never by 21. */
 void ward_plan(const uint64_t *words, size_t words_len, size_t badges, size_t ticks, uint64_t review, uint64_t query, size_t parts, uint8_t *out,
                size_t out_len, uint64_t answer[5]);
 

@@ -51,6 +51,18 @@ order 1 ticks 0 to 1 badges 0 2
 refused 14 at 0
 TEXT
 
+# Two teams of three that never met, in two ticks: a group each. Without badges 1 and 3 two pairs are left, 0 and 2, and 4 and 5. The plan around
+# badge 0 shows the core, which is of both teams.
+printf 'BH\6\2CT\0\1\0\1CT\0\2\0\1CT\1\2\0\1CT\3\4\0\1CT\3\5\0\1CT\4\5\0\1ED\6\0\0\0' > "$scratch/teams.log"
+try groups "$scratch/teams.log" 0 1 3<<'TEXT'
+order 2 ticks 0 to 1 badges 0 1 2
+order 2 ticks 0 to 1 badges 3 4 5
+without badges 1 and 3
+order 1 ticks 0 to 1 badges 0 2
+order 1 ticks 0 to 1 badges 4 5
+score 2 ticks 0 to 1 badges 0 1 2 3 4 5
+TEXT
+
 # A file that is no log: refused by its mark.
 try groups README.md 0 1 3<<'TEXT'
 refused 2 at 0

@@ -7,7 +7,8 @@
 # engine's core numbers of ticks 0 to 3, write, and read and tidy of the day's log. The fourth has the join of the logs of 2 and of 4 receivers at
 # quorum 2, each with each run of the day's log with probability 3/4, and before it the reads of the same logs, one after the other. In both there is a
 # '-' where a day has no log, having more than 8,000 runs. Each count is of one call, or of the reads of 2 or 4 logs, in a new process.
-# Needs cargo, valgrind, and target/staticlib/libward.a, which `rt staticlib ward` writes. Its arguments are the days, all six if there are none.
+# Needs cargo, valgrind, and target/staticlib/libward.a, which `rt staticlib ward` writes. Its arguments are the days, all six if there are none;
+# there is one more, 'circles', of which every core falls apart.
 set -euo pipefail
 source "$(dirname "${BASH_SOURCE[0]}")/counting.sh"
 [ $# -gt 0 ] || set -- sparse busy dense random persistent empty

@@ -10,8 +10,8 @@
 
 #include "ward.h"
 
-/* A region has room for the work words of a join, the most that a call may need: 48 pages. */
-enum { PAGE = 4096, ROOM = 8 * WARD_JOIN_WORK_WORDS, MOST_LOGS = 5 };
+/* A region has room for any report, the most that a call may need, in whole pages. */
+enum { PAGE = 4096, ROOM = (WARD_REPORT_BYTES + PAGE - 1) / PAGE * PAGE, MOST_LOGS = 5 };
 enum { READ, JOIN, TIDY, WRITE, CORE_NUMBERS, REPORT, PLAN, CALLS };
 
 static const char *const names[CALLS] = {"ward_read", "ward_join", "ward_tidy", "ward_write", "ward_core_numbers", "ward_report", "ward_plan"};
@@ -47,8 +47,9 @@ static void writable(uint8_t *at, int yes) {
 /* So many bytes at the front or at the back of a region. */
 static void *flush(uint8_t *at, size_t size) { return below(2) ? at : at + ROOM - size; }
 
-/* Words of a random day, or of none. */
+/* Words of a random day, or of none: mostly with many contacts, else with few, or in teams of from 2 to 9 that never meet. */
 static void fill_words(uint64_t *words, size_t len, size_t n, size_t ticks) {
+    size_t few = below(4) == 0, team = below(4) == 0 ? 2 + below(8) : 64;
     for (size_t i = 0; i < len; i++)
         words[i] = 0;
     if (n == 0 || n > 64)
@@ -56,7 +57,7 @@ static void fill_words(uint64_t *words, size_t len, size_t n, size_t ticks) {
     for (size_t t = 0; t < ticks && (t + 1) * n <= len; t++)
         for (size_t u = 0; u < n; u++)
             for (size_t v = u + 1; v < n; v++)
-                if (below(3) != 0) {
+                if (u / team == v / team && (few ? below(n) == 0 : below(3) != 0)) {
                     words[t * n + u] |= (uint64_t)1 << v;
                     words[t * n + v] |= (uint64_t)1 << u;
                 }
@@ -148,14 +149,14 @@ static const uint32_t refusals[CALLS] = {LOG | GIVES(WARD_TOO_FEW_WORDS),
                                          REVIEW | GIVES(WARD_FOREIGN_QUERY) | GIVES(WARD_QUERY_NOT_REVIEWED) | GIVES(WARD_INVALID_PARTS)};
 
 /* Whether the five numbers, all ones before the call, are an answer: a refusal of the call by its number and offset, or a success by its values,
- * and else 0. */
+ * and else 0. A report has whole records. */
 static int is_answer(size_t call, const uint64_t answer[5]) {
     uint64_t number = answer[WARD_NUMBER], badges = answer[WARD_BADGES], ticks = answer[WARD_TICKS], count = answer[WARD_COUNT];
     if (number != WARD_SUCCESS)
         return number < 32 && refusals[call] >> number & 1 && (number <= WARD_TRAILING_BYTES || answer[WARD_OFFSET] == 0) &&
                (badges | ticks | count) == 0;
     int finds_size = call == READ || call == JOIN;
-    return answer[WARD_OFFSET] == 0 && (call == JOIN ? count == 0 : count <= WARD_REPORT_BYTES) &&
+    return answer[WARD_OFFSET] == 0 && (call == JOIN ? count == 0 : count <= WARD_REPORT_BYTES) && (call != REPORT || count % 13 == 10) &&
            (finds_size ? badges >= 1 && badges <= 64 && ticks >= 1 && ticks <= 96 : (badges | ticks) == 0);
 }
 

@@ -50,5 +50,50 @@ try "$scratch/cut" 5 "$scratch/cut.txt"
 echo "refused 7 at 34" > "$scratch/long.txt"
 try "$scratch/long" 4096 "$scratch/long.txt"
 
+# A log of 64 badges and 96 ticks with so many contacts. Contact k, with s for k / 64, is of badge k mod 64 and the one whose number differs from that
+# in the binary digit s mod 4 alone, in ticks s - 2 to s, as far as there are such.
+log_by_digits() {
+    local k s u record
+    printf 'BH\x40\x60'
+    for ((k = 0; k < $1; k++)); do
+        s=$((k / 64))
+        u=$((k % 64))
+        printf -v record 'CT\\x%x\\x%x\\x%x\\x%x' "$u" "$((u ^ 1 << s % 4))" "$((s < 2 ? 0 : s - 2))" "$s"
+        printf "$record"
+    done
+    printf -v record 'ED\\x%x\\x%x\\x0\\x0' "$(($1 % 256))" "$(($1 / 256))"
+    printf "$record"
+}
+
+# The listing of that log with 5,888 contacts. Throughout a span from a first tick to a last, those contacts hold that end in the last or later and are
+# there in the first: a badge's circle has all that differ from it in their digits alone.
+listing_by_digits() {
+    local first last s digits u difference badges
+    echo "badges 64 ticks 96 groups 5040"
+    for ((first = 0; first < 90; first++)); do
+        for ((last = first; last < first + 3; last++)); do
+            for ((digits = 0, s = last; s < first + 3; s++)); do
+                digits=$((digits | 1 << s % 4))
+            done
+            for ((u = 0; u < 64; u++)); do
+                ((u & digits)) && continue
+                badges=""
+                for ((difference = 0; difference < 16; difference++)); do
+                    ((difference & ~digits)) || badges+=" $((u + difference))"
+                done
+                echo "order $((first + 3 - last)) ticks $first to $last badges$badges"
+            done
+        done
+    done
+}
+
+# The program has room for 65,536 bytes of a report: 5,040 records, 65,530 bytes, are listed, and with one contact more there are 65,543.
+log_by_digits 5888 > "$scratch/most"
+listing_by_digits > "$scratch/most.txt"
+try "$scratch/most" 4096 "$scratch/most.txt"
+log_by_digits 5889 > "$scratch/more"
+echo "refused 9 at 0" > "$scratch/more.txt"
+try "$scratch/more" 4096 "$scratch/more.txt"
+
 echo "$passed passed, $failed failed"
 [ "$failed" -eq 0 ]

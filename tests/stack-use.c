@@ -138,7 +138,7 @@ static void measure_words(void) {
 }
 
 int main(void) {
-    static const size_t days[][2] = {{100, 0}, {50, 0}, {90, 80}, {5, 80}, {0, 0}};
+    static const size_t days[][2] = {{100, 0}, {50, 0}, {90, 80}, {5, 80}, {1, 0}, {0, 0}};
     int wrong = 0;
     uint8_t *all = mmap(NULL, STACK + PAGE, PROT_READ | PROT_WRITE, MAP_PRIVATE | MAP_ANONYMOUS, -1, 0);
     if (all == MAP_FAILED || mprotect(all, PAGE, PROT_NONE) != 0) {

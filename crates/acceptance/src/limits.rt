@@ -3,6 +3,8 @@
 ghost use mathlib.Core.Path.{_≡_};
 ghost use lib.ListN.{length};
 use crate::cases;
+use crate::long_logs::Rule;
+use crate::long_logs::long_log;
 use check::same;
 use reference::Bytes;
 use reference::MAX_WORDS;
@@ -75,47 +77,10 @@ pub(crate) fn header() -> Tally {
     with_log(t, b"BH\x40\x61ED\x00\x00\x00\x00", 3, 0)
 }
 
-// Byte i of the record after k others in a log of so many contacts: badges k % 3 and the next are in contact in tick 0 or ticks 0 to 1; then the
-// end.
-fn byte_of(k: usize, i: usize, contacts: usize) -> usize {
-    if k < contacts {
-        return match i {
-            0 => 67,
-            1 => 84,
-            2 => k % 3,
-            3 => k % 3 + 1,
-            4 => 0,
-            _ => k % 2,
-        };
-    }
-    match i {
-        0 => 69,
-        1 => 68,
-        2 => contacts % 256,
-        3 => contacts / 256,
-        _ => 0,
-    }
-}
-
-// A log of n 4 and T 3 with so many contacts, in room for 8,001.
-fn long_log(contacts: usize) -> [u8; 48016]
-    ensures { λ r. ⌜ 48016 ≡ length r ⌝ }
-{
-    let mut log = [0u8; 48016];
-    log[0] = b'B';
-    log[1] = b'H';
-    log[2] = 4;
-    log[3] = 3;
-    for i in 0..48012usize {
-        log[4 + i] = (byte_of(i / 6, i % 6, contacts) % 256) as u8;
-    }
-    log
-}
-
 // 8,000 contacts pass, and 8,001 get 5.
 pub(crate) fn contacts() -> Tally {
-    let most = long_log(8000);
+    let most = long_log(4, 3, 8000, Rule::Chain);
     let t = with_log(Tally::none(), first_bytes(&most, 48010), 0, 0);
-    let more = long_log(8001);
+    let more = long_log(4, 3, 8001, Rule::Chain);
     with_log(t, &more, 5, 48004)
 }

@@ -1,8 +1,11 @@
-// The test program: document 01's cases that are not proved, and random logs and days, each against a slow second implementation.
+// The test program: document 01's cases that are not proved, document 02's limit of the listing, and random logs and days, against a slow second
+// implementation.
 // Each family of cases prints one line: how many cases were run, and how many of them came out wrong.
 mod answers;
 mod cases;
 mod limits;
+mod listings;
+mod long_logs;
 mod random_cases;
 
 use random_cases::Family;
@@ -59,7 +62,8 @@ fn run(before: Tally, name: &[u8], family: Family, small: Size, larger: Size) ->
 fn named(t: Tally) -> Tally {
     let t = print(t, b"64 badges all in contact: order 63", limits::order_63());
     let t = print(t, b"n 65 or T 97: 3", limits::header());
-    print(t, b"8000 contacts pass", limits::contacts())
+    let t = print(t, b"8000 contacts pass", limits::contacts());
+    print(t, b"65536 bytes are listed", listings::edge())
 }
 
 fn random_logs(t: Tally) -> Tally {

@@ -225,4 +225,21 @@ requested-holds =
     then refl
     then refl
     then refl
+    -- circles: two records of a core, and how many members count
+    then refl
+    then refl
+    then refl
+    then refl
+    then refl
+    then refl
+    then refl
+    -- their order, domination, and the pairs of a span
+    then refl
+    then refl
+    then refl
+    -- under review, in the listing, in a plan, and core numbers
+    then refl
+    then refl
+    then refl
+    then refl
     then none

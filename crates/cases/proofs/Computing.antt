@@ -1,7 +1,7 @@
 -- All definitions that the rows of the tables compute with, under one name.
 use Prim.Native.Nat.{ℕ}
 use Rattle.sets.specs.Bools.{_and_, _or_, isnt, all}
-use Rattle.sets.specs.Sets.{bit, isSub, intersection, setOf, full, filterIn, filter, sizeIn, size}
+use Rattle.sets.specs.Sets.{bit, isSub, intersection, difference, setOf, full, filterIn, filter, sizeIn, size, smallest}
 use Rattle.sets.specs.Bytes.{littleEndian, fromLittleEndian}
 use Rattle.sets.specs.Tables.{tabulate, concatBelow, keepIf}
 use Rattle.records.specs.Limits.{withinLimits}
@@ -21,12 +21,14 @@ use Rattle.log.specs.Calls.{writeJudged, writeOf, tidyBefore9, tidyOf}
 use Rattle.cores.specs.Graphs.{degree}
 use Rattle.cores.specs.Cores.{strip, strips, core}
 use Rattle.cores.specs.Orders.{largest, coreNumber, contains, score}
+use Rattle.circles.specs.Circles.{reaches, grow, grows, circle, firstCircle, circlesIn, circles}
 use Rattle.cuts.specs.Sums.{firstGreatest, sumWith, bestSum, endAfter, endsFrom, bestEnds}
 use Rattle.spans.specs.Spans.{isSpan, throughout, spanNeighbours}
 use Rattle.spans.specs.SpanCores.{coreOn, hasCore}
 use Rattle.spans.specs.Reports.{asLarge, same, isMaximal, isGroup, groupsOn, groupsFrom, groupsOf}
 use Rattle.thresholds.specs.Ranges.{inRange, areEnough}
 use Rattle.spans.specs.KeptGroups.{meets, kept}
+use Rattle.spans.specs.CircleRecords.{circlesOf, recordsOf, circleRecords, shownRecords}
 use Rattle.spans.specs.Reviews.{isReview}
 use Rattle.spans.specs.Plans.{scoreOn, membersOn, partOn, partsFrom, partsOf, isQuery, isReviewedQuery, isParts}
 use Rattle.spans.specs.PlanStatement.{sumOfOrders}
@@ -34,19 +36,20 @@ use Rattle.spans.specs.Encoding.{encodeCore, encodeCores, reportBytes, planByte
 use Rattle.spans.specs.Judging.{reviewOf, coreNumberBytes, spanJudged, reportJudged, planJudged}
 use Rattle.groups.specs.Calls.{coreNumbersOf, reportOf, planOf}
 use Rattle.text.specs.Decimal.{decimalIn, decimal}
-use Rattle.text.specs.Listing.{field, headLine, memberList, groupLine, refusalLine, reportLines, judgedLines, joined, listing}
+use Rattle.text.specs.Listing.{field, headLine, memberList, groupLine, refusalLine, reportLines, listedLines, listedGroups, judgedLines, joined, listing}
 use Rattle.promises.specs.D1.{badges, d1Words}
 use Rattle.promises.specs.Ties.{tiesWords}
+use Rattle.promises.specs.Circles.{apartWords, leavingWords, crossingWords}
 use Rattle.cases.specs.RecordBytes.{BH, CT, ED, RH, GR, PH, PT}
 use Rattle.cases.specs.Rows.{Holds}
 use Rattle.cases.specs.Table.{sevens, d1Log, d1Variant, d1Report, changingLog, changingWords, emptyLog, emptyWords, equalBadges, starred}
 use Rattle.cases.specs.Further.{nestedLog, nestedWords, further}
 use Rattle.cases.specs.Example.{exampleLog, exampleWords, exampleTidy, eastLog, westLog, bothWords, example}
-use Rattle.cases.specs.Requests.{triple, couple, nobody, without2, without3, missing, missingWords, repeating, repeatingWords, fourTicks, requested}
+use Rattle.cases.specs.Requests.{triple, couple, nobody, without2, without3, missing, missingWords, repeating, repeatingWords, fourTicks, cliqueWords, ringWords, aroundWords, requested}
 
 -- sets and lists
 sets-computing : ℕ
-unfolding _and_ _or_ isnt all bit isSub intersection setOf full filterIn filter sizeIn size littleEndian fromLittleEndian tabulate concatBelow keepIf
+unfolding _and_ _or_ isnt all bit isSub intersection difference setOf full filterIn filter sizeIn size smallest littleEndian fromLittleEndian tabulate concatBelow keepIf
 sets-computing = 0
 
 -- records, judging a log, days, tidy logs and the calls of the log part
@@ -56,15 +59,15 @@ log-computing = 0
 
 -- cores, cuttings, and the calls of the group part
 groups-computing : ℕ
-unfolding log-computing degree strip strips core largest coreNumber contains score firstGreatest sumWith bestSum endAfter endsFrom bestEnds isSpan throughout spanNeighbours coreOn hasCore asLarge same isMaximal isGroup groupsOn groupsFrom groupsOf inRange areEnough meets kept scoreOn membersOn partOn partsFrom partsOf isReview isQuery isReviewedQuery isParts sumOfOrders encodeCore encodeCores reportBytes planBytes reviewOf coreNumberBytes spanJudged coreNumbersOf reportJudged reportOf planJudged planOf
+unfolding log-computing degree strip strips core reaches grow grows circle firstCircle circlesIn circles largest coreNumber contains score firstGreatest sumWith bestSum endAfter endsFrom bestEnds isSpan throughout spanNeighbours coreOn hasCore asLarge same isMaximal isGroup groupsOn groupsFrom groupsOf inRange areEnough meets kept circlesOf recordsOf circleRecords shownRecords scoreOn membersOn partOn partsFrom partsOf isReview isQuery isReviewedQuery isParts sumOfOrders encodeCore encodeCores reportBytes planBytes reviewOf coreNumberBytes spanJudged coreNumbersOf reportJudged reportOf planJudged planOf
 groups-computing = 0
 
 -- the listing
 text-computing : ℕ
-unfolding groups-computing decimalIn decimal field headLine memberList groupLine refusalLine reportLines judgedLines joined listing
+unfolding groups-computing decimalIn decimal field headLine memberList groupLine refusalLine reportLines listedLines listedGroups judgedLines joined listing
 text-computing = 0
 
 -- the tables
 unfoldable pub computing : ℕ
-unfolding text-computing badges tiesWords BH CT ED RH GR PH PT Holds sevens d1Log d1Words d1Variant d1Report changingLog changingWords emptyLog emptyWords equalBadges starred nestedLog nestedWords further exampleLog exampleWords exampleTidy eastLog westLog bothWords example triple couple nobody without2 without3 missing missingWords repeating repeatingWords fourTicks requested
+unfolding text-computing badges tiesWords apartWords leavingWords crossingWords BH CT ED RH GR PH PT Holds sevens d1Log d1Words d1Variant d1Report changingLog changingWords emptyLog emptyWords equalBadges starred nestedLog nestedWords further exampleLog exampleWords exampleTidy eastLog westLog bothWords example triple couple nobody without2 without3 missing missingWords repeating repeatingWords fourTicks cliqueWords ringWords aroundWords requested
 computing = 0

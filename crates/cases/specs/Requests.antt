@@ -7,8 +7,9 @@ use Rattle.records.specs.Outcomes.{refused, success}
 use Rattle.thresholds.specs.Ranges.{plain, leastOf}
 use Rattle.promises.specs.D1.{badges, d1Words}
 use Rattle.promises.specs.Ties.{tiesWords}
+use Rattle.promises.specs.Circles.{apartWords, leavingWords, crossingWords}
 use Rattle.cases.specs.RecordBytes.{BH, CT, ED, RH, GR, PH, PT}
-use Rattle.cases.specs.Rows.{Row, join, tidy, core-numbers, report, plan, plan-ends, cut-sum, length-of}
+use Rattle.cases.specs.Rows.{Row, join, tidy, core-numbers, report, plan, plan-ends, cut-sum, listing, length-of}
 use Rattle.cases.specs.Table.{sevens, sized, d1Log, emptyLog, emptyWords, equalBadges}
 
 -- reports of D1 that keep one of its two groups, "order 2, 0 to 1, {0,1,2}" and "order 1, 0 to 2, {2,3}", and none
@@ -50,6 +51,20 @@ repeatingWords =
 
 unfoldable pub fourTicks : List ℕ
 fourTicks = BH 4 4 ++ CT 0 1 0 1 ++ CT 0 2 0 1 ++ CT 1 2 0 1 ++ CT 2 3 0 2 ++ ED 4
+
+-- n 7, T 1: a triangle of badges 0, 1 and 2, with all pairs of 3, 4, 5 and 6 (a clique), and with 3–4, 4–5, 5–6 and 6–3 (a ring); n 4, T 1: 0–3 and 1–2
+unfoldable pub cliqueWords : List ℕ
+cliqueWords =
+    (badges (1 ∷ 2 ∷ []) ∷ badges (0 ∷ 2 ∷ []) ∷ badges (0 ∷ 1 ∷ []) ∷ [])
+    ++ (badges (4 ∷ 5 ∷ 6 ∷ []) ∷ badges (3 ∷ 5 ∷ 6 ∷ []) ∷ badges (3 ∷ 4 ∷ 6 ∷ []) ∷ badges (3 ∷ 4 ∷ 5 ∷ []) ∷ [])
+
+unfoldable pub ringWords : List ℕ
+ringWords =
+    (badges (1 ∷ 2 ∷ []) ∷ badges (0 ∷ 2 ∷ []) ∷ badges (0 ∷ 1 ∷ []) ∷ [])
+    ++ (badges (4 ∷ 6 ∷ []) ∷ badges (3 ∷ 5 ∷ []) ∷ badges (4 ∷ 6 ∷ []) ∷ badges (3 ∷ 5 ∷ []) ∷ [])
+
+unfoldable pub aroundWords : List ℕ
+aroundWords = badges (3 ∷ []) ∷ badges (2 ∷ []) ∷ badges (1 ∷ []) ∷ badges (0 ∷ []) ∷ []
 
 unfoldable pub requested : List Row
 requested =
@@ -158,4 +173,26 @@ requested =
     ∷ plan 4 3 d1Words without3 (badges (3 ∷ 4 ∷ [])) 4 (sevens 3) (refused 13 0) (sevens 3)
     ∷ plan 4 3 d1Words without3 (badges (2 ∷ 3 ∷ [])) 4 (sevens 3) (refused 21 0) (sevens 3)
     ∷ plan 4 3 d1Words without3 (badges (2 ∷ [])) 4 (sevens 3) (refused 14 0) (sevens 3)
+    -- "Seven. .. each maximal core is reported by its circles": two triangles far apart are two records of one order and one span
+    ∷ report 6 1 apartWords (full 6) plain (sevens 37) (success 36) (RH 6 1 ++ GR 2 0 0 (badges (0 ∷ 1 ∷ 2 ∷ [])) ++ GR 2 0 0 (badges (3 ∷ 4 ∷ 5 ∷ [])) ++ ED 2 ++ 7 ∷ [])
+    ∷ report 6 1 apartWords (full 6) plain (sevens 35) (refused 9 0) (sevens 35)
+    -- "Least members is counted per circle": neither has 4; of a triangle and a ring of four the ring has. With all pairs of the four, these are of order 3
+    ∷ report 6 1 apartWords (full 6) (leastOf 1 1 4) (sevens 10) (success 10) (RH 6 1 ++ ED 0)
+    ∷ report 7 1 ringWords (full 7) plain (sevens 36) (success 36) (RH 7 1 ++ GR 2 0 0 (badges (0 ∷ 1 ∷ 2 ∷ [])) ++ GR 2 0 0 (badges (3 ∷ 4 ∷ 5 ∷ 6 ∷ [])) ++ ED 2)
+    ∷ report 7 1 ringWords (full 7) (leastOf 1 1 4) (sevens 23) (success 23) (RH 7 1 ++ GR 2 0 0 (badges (3 ∷ 4 ∷ 5 ∷ 6 ∷ [])) ++ ED 1)
+    ∷ report 7 1 cliqueWords (full 7) plain (sevens 23) (success 23) (RH 7 1 ++ GR 3 0 0 (badges (3 ∷ 4 ∷ 5 ∷ 6 ∷ [])) ++ ED 1)
+    ∷ report 7 1 cliqueWords (full 7) (leastOf 1 1 4) (sevens 23) (success 23) (RH 7 1 ++ GR 3 0 0 (badges (3 ∷ 4 ∷ 5 ∷ 6 ∷ [])) ++ ED 1)
+    -- "ordered by first tick, last tick, smallest member", whoever is the largest
+    ∷ report 4 1 aroundWords (full 4) plain (sevens 36) (success 36) (RH 4 1 ++ GR 1 0 0 (badges (0 ∷ 3 ∷ [])) ++ GR 1 0 0 (badges (1 ∷ 2 ∷ [])) ++ ED 2)
+    -- "Domination is still by order and span of the whole core": 2–3 in tick 0 is of a core that the longer span of 0–1 dominates
+    ∷ report 4 2 leavingWords (full 4) plain (sevens 23) (success 23) (RH 4 2 ++ GR 1 0 1 (badges (0 ∷ 1 ∷ [])) ++ ED 1)
+    -- the span's pairs: 0–1 and 2–3 are in both ticks, and what joins them is in one alone
+    ∷ report 4 2 crossingWords (full 4) plain (sevens 36) (success 36) (RH 4 2 ++ GR 1 0 1 (badges (0 ∷ 1 ∷ [])) ++ GR 1 0 1 (badges (2 ∷ 3 ∷ [])) ++ ED 2)
+    -- among the badges under review: without 4 the other triangle is none
+    ∷ report 6 1 apartWords (badges (0 ∷ 1 ∷ 2 ∷ 3 ∷ 5 ∷ [])) plain (sevens 23) (success 23) (RH 6 1 ++ GR 2 0 0 (badges (0 ∷ 1 ∷ 2 ∷ [])) ++ ED 1)
+    -- the listing program "counts and prints each circle as a group"
+    ∷ listing (BH 6 1 ++ CT 0 1 0 0 ++ CT 0 2 0 0 ++ CT 1 2 0 0 ++ CT 3 4 0 0 ++ CT 3 5 0 0 ++ CT 4 5 0 0 ++ ED 6) "badges 6 ticks 1 groups 2\norder 2 ticks 0 to 0 badges 0 1 2\norder 2 ticks 0 to 0 badges 3 4 5\n"
+    -- "Members in plans are not split", and core numbers are those of the cores
+    ∷ plan 6 1 apartWords (full 6) (badges (0 ∷ [])) 1 (sevens 32) (success 32) (PH 6 1 1 (badges (0 ∷ [])) ++ PT 2 0 0 (full 6) ++ ED 1)
+    ∷ core-numbers 6 1 apartWords (full 6) 0 0 (sevens 6) (success 6) (replicate 6 2)
     ∷ []

@@ -1,12 +1,12 @@
--- Laws of rows in an array: the words of one tick over rows that are all 0, and the union of rows.
+-- Laws of rows in an array: the words of one tick over empty rows, and the union of rows.
 use mathlib.Core.Path.{_≡_, sym, _∙_}
 use mathlib.Core.List.{List}
 use mathlib.Core.Logic.{inl, inr, by-cases}
-use Prim.Native.Nat.{ℕ, zero, suc, _+_, _<_}
+use Prim.Native.Nat.{ℕ, zero, suc, _+_, _≤_, _<_}
 use native.Mathlib.Numerals.{add-one}
 use native.Mathlib.Decide.{decLt}
 use native.Mathlib.Omega.{arith}
-use lib.ListN.{length, getD, replicate, getD-replicate, List·getD-eq-default}
+use lib.ListN.{length, getD, List·getD-eq-default}
 use Rattle.sets.specs.Sets.{In, union, full}
 use Rattle.sets.specs.Members.{capacity}
 use Rattle.sets.specs.Tables.{tabulate}
@@ -14,13 +14,13 @@ use Rattle.sets.proofs.Sets.{not-in-none, in-union-left, in-union-right, of-uni
 use Rattle.sets.proofs.Tables.{tabulate-same, piecewise-in, piecewise-out}
 use Rattle.checks.specs.Arrays.{tickOver, unionOf}
 
--- over rows that are all 0, the words of a tick are its rows, and the others stay 0
-pub over-zeros : (tick : List ℕ) → tickOver tick (replicate capacity 0) ≡ tabulate capacity (λ u. getD tick u 0)
+-- over rows of which those past the tick's words are empty, the words of a tick are its rows
+pub over-empty : (tick rows : List ℕ) → ((u : ℕ) → length tick ≤ u → getD rows u 0 ≡ 0) → tickOver tick rows ≡ tabulate capacity (λ u. getD tick u 0)
 unfolding tickOver
-over-zeros tick = tabulate-same capacity _ _ (λ u l.
+over-empty tick rows h = tabulate-same capacity _ _ (λ u l.
     by-cases (decLt u (length tick))
     (λ p. piecewise-in (full (length tick)) _ _ u (in-full _ u p))
-    (λ p. piecewise-out (full (length tick)) _ _ u (λ i. p (of-full _ u i)) ∙ getD-replicate capacity u 0 0 l ∙ sym (List·getD-eq-default tick 0 (omega arith))))
+    (λ p. piecewise-out (full (length tick)) _ _ u (λ i. p (of-full _ u i)) ∙ h u (omega arith) ∙ sym (List·getD-eq-default tick 0 (omega arith))))
 
 -- one row more is united
 pub union-more : (rows : List ℕ) (u : ℕ) → union (unionOf u rows) (getD rows u 0) ≡ unionOf (u + 1) rows

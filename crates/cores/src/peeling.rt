@@ -67,20 +67,13 @@ pub(crate) fn core(rows: &[u64; 64], base: BadgeSet, order: usize) -> Kept
     }
 }
 
-// The rows of the members of a set, and an empty row for every other badge. The walk over the others has so many turns as there are rows at most:
-// so a compiler can tell that it ends, and leaves it out where a caller has no use for the rows.
-pub fn keep(rows: [u64; 64], s: BadgeSet) -> [u64; 64]
+// The rows of the members of a set, and an empty row for every other badge.
+fn keep(rows: [u64; 64], s: BadgeSet) -> [u64; 64]
     ensures { λ r. ⌜ r ≡ keptRows rows (members s) ⌝ }
 {
-    if s.is_empty() {
-        return [0u64; 64];
-    }
     let mut out = rows;
     let mut unseen = BadgeSet::full(64).difference(s);
-    for _ in 0..64usize {
-        if unseen.is_empty() {
-            break;
-        }
+    while !unseen.is_empty() {
         let u = unseen.smallest();
         out[u] = 0;
         let rest = unseen.rest();

@@ -6,10 +6,14 @@ pub mod Narrowing
 -- what is found from rows: core numbers, and the loop over the spans with one first tick
 pub mod RowCores
 pub mod LineLoops
--- records in bytes
-pub mod Appended
--- the report: line by line, in bytes, and as a whole
+-- cores kept in memory, and those of a day
+pub mod KeptMemory
 pub mod LineLaws
+pub mod CoresFound
+-- records in bytes, and those of a core's circles
+pub mod Appended
+pub mod CircleLoop
+-- the report: in bytes, and as a whole
 pub mod ReportBytes
 pub mod ReportTheorems
 -- the plan: scores, parts, in bytes, and as a whole

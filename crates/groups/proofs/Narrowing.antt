@@ -1,11 +1,13 @@
 -- Laws of the loops that work out a span's rows, narrowed tick by tick.
-use mathlib.Core.Path.{_≡_, refl, ap, ap₂, _∙_}
+use mathlib.Core.Path.{_≡_, refl, ap, _∙_}
 use mathlib.Core.List.{List}
+use mathlib.Core.Logic.{by-cases}
 use Prim.Native.Nat.{ℕ, suc, _+_, _-_, _*_, _≤_, _<_, min}
 use native.Mathlib.Nat.{le-refl, suc-mul}
 use native.Mathlib.Numerals.{add-one}
+use native.Mathlib.Decide.{decLt}
 use native.Mathlib.Omega.{arith}
-use lib.ListN.{length, getD, take, drop, replicate, length-drop}
+use lib.ListN.{length, getD, take, drop, replicate, length-drop, getD-replicate, List·getD-eq-default}
 use lib.Seq.{length-take-le}
 use Rattle.sets.specs.Sets.{intersection}
 use Rattle.sets.specs.Members.{capacity}
@@ -13,10 +15,10 @@ use Rattle.sets.proofs.Tables.{replaced, replaced-done}
 use Rattle.records.proofs.WithinLimits.{limits-of}
 use Rattle.checks.specs.Arrays.{tickOver}
 use Rattle.days.proofs.Days.{tick-fits}
-use Rattle.checks.proofs.TickRows.{over-zeros}
+use Rattle.checks.proofs.TickRows.{over-empty}
 use Rattle.spans.specs.Spans.{SpanOfDay, spanRows}
-use Rattle.spans.proofs.SpanRows.{span-length}
-use Rattle.groups.specs.Steps.{tickOf, NextTick, Narrows, RowsTo}
+use Rattle.spans.proofs.SpanRows.{span-length, span-row-none}
+use Rattle.groups.specs.Steps.{tickOf, NextTick, Narrows, RowsTo, EmptyFrom}
 use Rattle.groups.proofs.TickRows.{tick-span, narrowed, narrow-span}
 
 -- Rows that are narrowed in place, the first u of them.
@@ -48,6 +50,17 @@ slice-tick : (n : ℕ) (ws : List ℕ) (t : ℕ) {at : ℕ} → at ≡ t * n →
 unfolding tickOf
 slice-tick n ws t {at} e = let f : at + n - at ≡ n = omega arith in rw (f, e)
 
+tick-length : (n : ℕ) (ws : List ℕ) (t : ℕ) → t * n + n ≤ length ws → length (tickOf n ws t) ≡ n
+unfolding tickOf
+tick-length n ws t l = length-take-le n (drop (t * n) ws) (omega (arith, length-drop (t * n) ws))
+
+-- an array of empty rows, and the rows of a span, which are empty from n up
+pub empty-zeros : (n : ℕ) → EmptyFrom n (replicate capacity 0)
+empty-zeros n = record { past = λ u l. by-cases (decLt u capacity) (getD-replicate capacity u 0 0) (λ p. List·getD-eq-default (replicate capacity 0) 0 {n = u} (omega arith)) }
+
+pub empty-span : (n : ℕ) (ws : List ℕ) (first last : ℕ) {rows : List ℕ} → rows ≡ spanRows n ws first last → EmptyFrom n rows
+empty-span n ws first last e = rw e (record { past = λ u l. span-row-none n ws first last u l })
+
 -- The pass over a span's ticks, at tick t: its words start at a place, and the rows found so far are those of the span from tick first to t.
 pub record Going (n : ℕ) (ws : List ℕ) (first last t at : ℕ) (found : List ℕ) : Type 0 where
   pub low : first ≤ t
@@ -64,9 +77,11 @@ module _ {n T : ℕ} {ws : List ℕ} {first last : ℕ} (d : SpanOfDay n T ws fi
   few = limits-of (d .lent .limits) .few
 
   -- the rows of the first tick are those of its span
-  pub first-tick : {given rows : List ℕ} → given ≡ replicate capacity 0 → rows ≡ tickOver (take (first * n + n - first * n) (drop (first * n) ws)) given → rows ≡ spanRows n ws first first
-  first-tick z e =
-      e ∙ ap₂ tickOver (slice-tick n ws first refl) z ∙ over-zeros (tickOf n ws first) ∙ tick-span n T ws first (d .lent .day) (omega (arith, d .rising, d .inside))
+  pub first-tick : {given rows : List ℕ} → EmptyFrom n given → rows ≡ tickOver (take (first * n + n - first * n) (drop (first * n) ws)) given → rows ≡ spanRows n ws first first
+  first-tick {given} z e =
+      let whole : length (tickOf n ws first) ≡ n = tick-length n ws first (tick-inside first d (d .rising)) in
+      e ∙ ap (λ (tick : List ℕ). tickOver tick given) (slice-tick n ws first refl) ∙ over-empty (tickOf n ws first) given (λ u l. z .past u (omega arith))
+      ∙ tick-span n T ws first (d .lent .day) (omega (arith, d .rising, d .inside))
 
   -- and a longer span starts with them
   pub first-of : {rows : List ℕ} → rows ≡ spanRows n ws first first → RowsTo n ws first last rows first

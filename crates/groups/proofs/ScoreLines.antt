@@ -47,8 +47,10 @@ module _ {T first : ℕ} {orders scores : List ℕ} (p : LinePlaces T first orde
 
 -- The loop over the first ticks, at tick first: the runs that start before it are in the table, and the scores of those that start one tick
 -- before it are at hand.
-pub record ScoredBefore (n T : ℕ) (ws : List ℕ) (base query first : ℕ) (orders members scores : List ℕ) : Type 0 where
+pub record ScoredBefore (n T : ℕ) (ws : List ℕ) (base query first : ℕ) (orders members circles large scores : List ℕ) : Type 0 where
   pub members-size : length members ≡ maxTicks
+  pub circles-size : length circles ≡ maxTicks
+  pub large-size : length large ≡ maxTicks
   pub before : ScoresBefore n T ws base query first orders
   pub found : Scores n T ws base query first scores
 
@@ -58,22 +60,26 @@ module _ {n T : ℕ} {ws : List ℕ} (d : LentDay n T ws) where
 
   -- before the first tick
   pub scored-none : (base query : ℕ) {scores : List ℕ} → length scores ≡ maxTicks * maxTicks
-      → ScoredBefore n T ws base query 0 (replicate (suc maxTicks) 0) (replicate maxTicks 0) scores
+      → ScoredBefore n T ws base query 0 (replicate (suc maxTicks) 0) (replicate maxTicks 0) (replicate maxTicks 0) (replicate maxTicks 0) scores
   scored-none base query e = record {
     members-size = refl;
+    circles-size = refl;
+    large-size = refl;
     before = scores-none n T ws base query short;
     found = record { size = e; score = λ first last l m r. absurd (omega arith) };
   }
 
   -- a turn: the scores of the runs that start with tick first are found, and put into the table
-  module _ {base query first : ℕ} {orders members scores : List ℕ} (b : ScoredBefore n T ws base query first orders members scores) (k : first < T) {orders′ members′ : List ℕ}
-      (f : LineFound n T ws base query first orders orders′ members′) where
+  module _ {base query first enough : ℕ} {orders members circles large scores : List ℕ} (b : ScoredBefore n T ws base query first orders members circles large scores) (k : first < T)
+      {orders′ members′ circles′ large′ : List ℕ} (f : LineFound n T ws base query first enough orders orders′ members′ circles′ large′) where
     pub scored-places : LinePlaces T first orders′ scores
     scored-places = record { short = short; inside = k; orders-size = omega (arith, f .orders-size, b .before .size, short); scores-size = b .found .size }
 
-    pub scored-more : {scores′ : List ℕ} → LinePut T first orders′ scores scores′ → ScoredBefore n T ws base query (first + 1) orders′ members′ scores′
+    pub scored-more : {scores′ : List ℕ} → LinePut T first orders′ scores scores′ → ScoredBefore n T ws base query (first + 1) orders′ members′ circles′ large′ scores′
     scored-more p = rw add-one (record {
       members-size = f .members-size;
+      circles-size = f .circles-size;
+      large-size = f .large-size;
       before = scores-more (b .before) f;
       found = record {
         size = p .size;
@@ -84,6 +90,6 @@ module _ {n T : ℕ} {ws : List ℕ} (d : LentDay n T ws) where
     })
 
 -- after the last tick
-pub scored-all : {n T : ℕ} {ws : List ℕ} {base query first : ℕ} {orders members scores : List ℕ} → ScoredBefore n T ws base query first orders members scores → T ≤ first
+pub scored-all : {n T : ℕ} {ws : List ℕ} {base query first : ℕ} {orders members circles large scores : List ℕ} → ScoredBefore n T ws base query first orders members circles large scores → T ≤ first
     → Scores n T ws base query T scores
 scored-all b k = record { size = b .found .size; score = λ f l p q r. b .found .score f l (omega arith) q r }

@@ -1,21 +1,24 @@
 -- What the functions that put records into memory promise.
-use mathlib.Core.List.{List, [], _∷_, _++_}
+use mathlib.Core.List.{List, _++_, map}
 use mathlib.Core.Path.{_≡_}
-use Prim.Native.Nat.{ℕ, suc, _+_, _-_, _*_, _≤_, _<_}
-use lib.Dec.{leb, ltb}
-use lib.ListN.{length, getD, take, drop}
-use Rattle.sets.specs.Bools.{_and_}
+use Prim.Native.Nat.{ℕ, _+_, _*_, _≤_}
+use lib.ListN.{length, take, drop}
+use Rattle.sets.specs.Sets.{Sub, full, size}
 use Rattle.sets.specs.Members.{members}
-use Rattle.sets.specs.Tables.{concatBelow, keepIf}
-use Rattle.records.specs.Limits.{maxTicks}
 use Rattle.records.specs.Outcomes.{Outcome, success}
+use Rattle.days.specs.Days.{LentDay}
 use Rattle.log.specs.Buffers.{deliver}
+use Rattle.circles.specs.Circles.{atLeast}
 use Rattle.thresholds.specs.declared.Thresholds.{Thresholds}
+use Rattle.spans.specs.Spans.{SpanOfDay, spanRows}
+use Rattle.spans.specs.Reviews.{Review}
 use Rattle.spans.specs.SpanCores.{SpanCore}
 use Rattle.spans.specs.Reports.{groupsOf}
 use Rattle.spans.specs.KeptGroups.{kept}
+use Rattle.spans.specs.CircleRecords.{withMembers, circlesOf, shownRecords}
+use Rattle.spans.specs.Encoding.{maxCores, encodeCores, reportBytes}
 use Rattle.groups.specs.declared.encoding.Shown.{Shown}
-use Rattle.spans.specs.Encoding.{spanCount, encodeCores, reportBytes}
+use Rattle.groups.specs.Keeping.{packed, circleCount}
 
 -- what a record of the program shows
 abbrev pub coreOf : Shown → SpanCore
@@ -28,30 +31,48 @@ pub record AppendsCores (mark : List ℕ) (header : ℕ) (cores : List SpanCore)
   pub bytes : take (header + 13 * count′) buffer′ ≡ take (header + 13 * count) buffer ++ encodeCores mark cores
   pub rest : drop (header + 13 * count′) buffer′ ≡ drop (header + 13 * count′) buffer
 
--- the records of the spans that start with a tick, by last tick: those with members whose order is above the next
-unfoldable pub lineList : List ℕ → List ℕ → ℕ → ℕ → List SpanCore
-lineList orders members first T =
-    concatBelow T (λ last. keepIf (leb first last) (keepIf (ltb 0 (getD members last 0) and ltb (getD orders (suc last) 0) (getD orders last 0)) (record { order = getD orders last 0; first = first; last = last; members = getD members last 0 } ∷ [])))
+-- the records of those circles of a core that have members enough
+unfoldable pub largeRecords : SpanCore → ℕ → List ℕ → List SpanCore
+largeRecords c enough ss = map (withMembers c) (atLeast enough ss)
 
--- sizes that let a line of records be appended: at most one for each last tick from the first tick on
-pub record LineRoom (T first count : ℕ) (orders members buffer : List ℕ) : Type 0 where
-  pub short : T ≤ maxTicks
-  pub orders-size : T < length orders
-  pub members-size : T ≤ length members
-  pub inside : first < T
-  pub room : 4 + 13 * (count + (T - first)) ≤ length buffer
+-- room for them after so many records
+pub record CircleRoom (count enough : ℕ) (ss : List ℕ) (buffer : List ℕ) : Type 0 where
+  pub room : 4 + 13 * (count + length (atLeast enough ss)) ≤ length buffer
+
+-- rows that are those of a span of a day
+pub record RowsOf (n T : ℕ) (ws : List ℕ) (first last : ℕ) (rows : List ℕ) : Type 0 where
+  pub span : SpanOfDay n T ws first last
+  pub are : rows ≡ spanRows n ws first last
+
+-- A core that is to be split: it is one of a span of the day, as many circles as are said are its circles, and it has members enough itself. The records
+-- of its circles have room.
+pub record CoreToSplit (n T : ℕ) (ws : List ℕ) (enough : ℕ) (c : SpanCore) (circles count : ℕ) (buffer : List ℕ) : Type 0 where
+  pub span : SpanOfDay n T ws (c .first) (c .last)
+  pub named : Sub (c .members) (full n)
+  pub number : circles ≡ length (circlesOf n ws c)
+  pub many : enough ≤ size (c .members)
+  pub room : CircleRoom count enough (circlesOf n ws c) buffer
 
 -- the bytes of the report that is asked for
-abbrev pub keptBytes : ℕ → ℕ → List ℕ → ℕ → Thresholds → List ℕ
-keptBytes n T ws base least = reportBytes n T (kept least (groupsOf n T ws base))
+abbrev pub shownBytes : ℕ → ℕ → List ℕ → ℕ → Thresholds → List ℕ
+shownBytes n T ws base least = reportBytes n T (shownRecords n T ws base least)
 
--- A day's report is laid over the first bytes of a buffer, and the bytes after it are as they were; and how many records it has.
-pub record EncodesReport (n T : ℕ) (ws : List ℕ) (base : ℕ) (least : Thresholds) (count : ℕ) (buffer buffer′ : List ℕ) : Type 0 where
+-- What a report is written from: a lent day, the badges under review, and memory in which the cores that meet the thresholds are kept; and a buffer that
+-- holds it.
+pub record ReportCores (n T : ℕ) (ws : List ℕ) (base : ℕ) (least : Thresholds) (count : ℕ) (memory buffer : List ℕ) : Type 0 where
+  pub lent : LentDay n T ws
+  pub reviewed : Review n base
   pub number : count ≡ length (kept least (groupsOf n T ws base))
-  pub few : count ≤ spanCount T
-  pub bytes : buffer′ ≡ keptBytes n T ws base least ++ drop (10 + 13 * count) buffer
+  pub words : take (2 * count) memory ≡ packed (circleCount n ws) (kept least (groupsOf n T ws base))
+  pub few : count ≤ maxCores
+  pub size : 2 * count ≤ length memory
+  pub room : length (shownBytes n T ws base least) ≤ length buffer
+
+-- A day's report is laid over the first bytes of a buffer, and the bytes after it are as they were.
+pub record EncodesReport (n T : ℕ) (ws : List ℕ) (base : ℕ) (least : Thresholds) (buffer buffer′ : List ℕ) : Type 0 where
+  pub bytes : buffer′ ≡ shownBytes n T ws base least ++ drop (length (shownBytes n T ws base least)) buffer
 
 -- The report is put into a buffer, judged by 9: what is answered, and what the buffer then holds.
 pub record DeliversReport (n T : ℕ) (ws : List ℕ) (base : ℕ) (least : Thresholds) (outcome : Outcome ℕ) (buffer buffer′ : List ℕ) : Type 0 where
-  pub answer : outcome ≡ deliver (success (keptBytes n T ws base least)) buffer .answer
-  pub leaves : buffer′ ≡ deliver (success (keptBytes n T ws base least)) buffer .buffer
+  pub answer : outcome ≡ deliver (success (shownBytes n T ws base least)) buffer .answer
+  pub leaves : buffer′ ≡ deliver (success (shownBytes n T ws base least)) buffer .buffer

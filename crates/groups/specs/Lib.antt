@@ -1,4 +1,4 @@
--- The calls of the group part: what a reader has to believe. Laws are in proofs/. (`Steps`, `Lines`, `Appending` and `Scoring` are
+-- The calls of the group part: what a reader has to believe. Laws are in proofs/. (`Steps`, `Lines`, `Keeping`, `Appending` and `Scoring` are
 -- cited by private functions alone.)
 pub mod Refusals
 pub mod Steps
@@ -6,5 +6,6 @@ pub mod Calls
 pub mod GroupReports
 pub mod ShiftPlans
 pub mod Lines
+pub mod Keeping
 pub mod Appending
 pub mod Scoring

@@ -2,7 +2,7 @@
 use mathlib.Core.Path.{_≡_}
 use mathlib.Core.List.{List}
 use Prim.Native.Nat.{ℕ, suc, _*_, _≤_}
-use lib.ListN.{length, take, drop}
+use lib.ListN.{length, getD, take, drop}
 use Rattle.sets.specs.Members.{capacity}
 use Rattle.spans.specs.Spans.{spanRows}
 
@@ -31,3 +31,7 @@ pub record RowsTo (n : ℕ) (ws : List ℕ) (first last : ℕ) (rows : List ℕ)
   pub low : first ≤ reached
   pub high : reached ≤ last
   pub are : rows ≡ spanRows n ws first reached
+
+-- an array of rows in which those from n up are empty
+pub record EmptyFrom (n : ℕ) (rows : List ℕ) : Type 0 where
+  pub past : (u : ℕ) → n ≤ u → getD rows u 0 ≡ 0

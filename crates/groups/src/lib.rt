@@ -3,8 +3,10 @@
 // Each call takes day words and a set of badges under review: `core_numbers` with a span to the core number of each badge, `report` with thresholds to
 // the report of the day's groups that meet them, and `plan` with a query and a number of parts to the plan of the shift around the query.
 mod answer;
+mod circling;
 mod day;
 mod encoding;
+mod keeping;
 mod lines;
 mod numbers;
 mod planning;
@@ -13,6 +15,7 @@ mod reporting;
 mod reviewing;
 mod rows;
 mod scoring;
+mod writing;
 
 pub use answer::Written;
 pub use numbers::core_numbers;

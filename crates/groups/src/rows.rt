@@ -1,9 +1,8 @@
 // The rows of a span: for each badge, those in contact with it in every tick.
 ghost use mathlib.Core.Path.{_≡_};
-ghost use lib.ListN.{replicate};
-ghost use Rattle.sets.specs.Members.{capacity};
+ghost use Prim.Native.Nat.{_≤_};
 ghost use Rattle.spans.specs.Spans.{spanRows, SpanOfDay};
-ghost use Rattle.groups.specs.Steps.{NextTick, Narrows, RowsTo};
+ghost use Rattle.groups.specs.Steps.{NextTick, Narrows, RowsTo, EmptyFrom};
 use crate::day::Day;
 use crate::day::Span;
 use checks::copy_tick;
@@ -40,14 +39,29 @@ pub(crate) fn narrow_to(
     }
 }
 
-// Puts the rows of the span of one tick into an array of empty rows.
+// Puts the rows of the span of one tick into an array whose rows from n up are empty.
 pub(crate) fn first_rows(rows: &mut [u64; 64], words: &[u64], day: Day, first: usize)
-    requires { ⌜ SpanOfDay (day .badges) (day .ticks) (now words) first first × (now rows ≡ replicate capacity 0) ⌝ }
+    requires { ⌜ SpanOfDay (day .badges) (day .ticks) (now words) first first × EmptyFrom (day .badges) (now rows) ⌝ }
     ensures { λ _. ⌜ now (rows .exit) ≡ spanRows (day .badges) (now (words .entry)) first first ⌝ }
 {
     let n = day.badges;
     let at = first * n;
     copy_tick(rows, &words[at..at + n]);
+}
+
+// Turns the rows of one span into those of another: where that is longer at its end alone, they are narrowed further.
+pub(crate) fn follow(rows: &mut [u64; 64], words: &[u64], day: Day, at: Span, to: Span)
+    requires { ⌜ SpanOfDay (day .badges) (day .ticks) (now words) (to .first) (to .last) × (at .first ≤ at .last) × (now rows ≡ spanRows (day .badges) (now words) (at .first) (at .last)) ⌝ }
+    ensures { λ _. ⌜ now (rows .exit) ≡ spanRows (day .badges) (now (words .entry)) (to .first) (to .last) ⌝ }
+{
+    if at.first == to.first {
+        if at.last <= to.last {
+            narrow_to(&mut rows[..], words, day, to.first, at.last, to.last);
+            return;
+        }
+    }
+    first_rows(rows, words, day, to.first);
+    narrow_to(&mut rows[..], words, day, to.first, to.first, to.last);
 }
 
 // The rows of a span: those of its first tick, narrowed by the others.

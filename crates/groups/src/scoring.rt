@@ -21,15 +21,28 @@ fn put_line(orders: &[u8], first: usize, ticks: usize, scores: &mut [u8])
     }
 }
 
-// Fills a table with the score of every run of a day: a row for each first tick, a column for each last tick.
+// Fills a table with the score of every run of a day: a row for each first tick, a column for each last tick. A plan's cores are not split, so no circle
+// is counted.
 pub(crate) fn fill_scores(words: &[u64], day: Day, query: BadgeSet, scores: &mut [u8])
     requires { ⌜ LentDay (day .badges) (day .ticks) (now words) × Review (day .badges) (members (day .review)) × (length (now scores) ≡ maxTicks * maxTicks) ⌝ }
     ensures { λ _. ⌜ Scores (day .badges) (day .ticks) (now (words .entry)) (members (day .review)) (members query) (day .ticks) (now (scores .exit)) ⌝ }
 {
     let mut orders = [0u8; 97];
     let mut members = [0u64; 96];
+    let mut circles = [0u8; 96];
+    let mut large = [0u8; 96];
     for first in 0..day.ticks {
-        find_line(words, day, first, query, &mut orders, &mut members);
+        find_line(
+            words,
+            day,
+            first,
+            query,
+            0,
+            &mut orders,
+            &mut members,
+            &mut circles,
+            &mut large,
+        );
         put_line(&orders, first, day.ticks, scores);
     }
 }

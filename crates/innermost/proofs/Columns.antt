@@ -125,4 +125,4 @@ pub symmetric-highest : {rows : List ℕ} {base query above most k s : ℕ} {row
     → IsHighest (transposed (graph rows) base) rows base query above most k s rows′ → IsHighest (graph rows) rows base query above most k s rows′
 symmetric-highest h c =
     let x = symmetric-climbed h (record { order = c .order; members = c .members }) in
-    record { order = x .order; members = x .members; kept = c .kept }
+    record { order = x .order; members = x .members; back = c .back }

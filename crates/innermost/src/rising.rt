@@ -13,12 +13,11 @@ ghost use Rattle.innermost.specs.Columns.{transposed};
 ghost use Rattle.innermost.specs.Counting.{Counting, Settled, Climbing};
 use crate::lanes::count;
 use crate::lanes::discount;
-use cores::keep;
 use planes::Planes;
 use sets::BadgeSet;
 use sets::widen;
 
-// A core: its order, its members, and their rows, with an empty row for every other badge.
+// A core: its order, its members, and the rows that it was found in.
 pub struct Core {
     pub order: u8,
     pub members: BadgeSet,
@@ -182,7 +181,7 @@ pub fn highest(rows: &[u64; 64], base: BadgeSet, query: BadgeSet, above: u8, mos
     climb(rows, base, query, above, stop)
 }
 
-// The same core with its rows: they go in by value, and those of the members come back.
+// The same core: the rows go in by value, and come back with it. Between members they have its pairs; what a caller does next, it does with them.
 pub fn highest_core(rows: [u64; 64], base: BadgeSet, query: BadgeSet, above: u8, most: u8) -> Core
     ensures { λ r. ⌜ IsHighest (transposed (graph rows) (members base)) rows (members base) (members query) above most (r .order) (members (r .members)) (r .rows) ⌝ }
 {
@@ -191,6 +190,6 @@ pub fn highest_core(rows: [u64; 64], base: BadgeSet, query: BadgeSet, above: u8,
     Core {
         order: found.order,
         members,
-        rows: keep(rows, members),
+        rows,
     }
 }

@@ -1,12 +1,12 @@
-// The listing program: reads a log from standard input and writes the listing of its groups, or of its refusal.
+// The listing program: reads a log from standard input and writes the listing of its groups, each circle as one, or of its refusal.
 use libc::STDIN_FILENO;
 use libc::STDOUT_FILENO;
 use text::Written;
 use text::lines;
 use text::prepare;
 
-// A line for each of at most 4,656 groups, and the first.
-const MOST_LINES: usize = 4657;
+// A line for each group, and the first: a report of 65,536 bytes has at most 5,040 groups, of 13 bytes each and 10 beside them.
+const MOST_LINES: usize = 5041;
 
 // Writes the next lines from a place on, as many as a buffer holds, and answers the place of the line after them: the same place where
 // there is no line left, or writing fails.
@@ -32,12 +32,12 @@ fn write_listing(answer: Written, report: &[u8]) {
     }
 }
 
-// A log has at most 48,010 bytes, so 48,011 tell whether one follows; a day has at most 6,144 words, and a report at most 60,538 bytes.
+// A log has at most 48,010 bytes, so 48,011 tell whether one follows; a day has at most 6,144 words. A report of more than 65,536 bytes is refused by 9.
 fn main() {
     let mut log = [0u8; 48011];
     let size = io::read_full(STDIN_FILENO, &mut log);
     let mut words = [0u64; 6144];
-    let mut report = [0u8; 60538];
+    let mut report = [0u8; 65536];
     let answer = prepare(&log[..size], &mut words, &mut report);
     write_listing(answer, &report);
 }

@@ -26,6 +26,7 @@ pub mod ThresholdSubstitutes
 pub mod PlanSubstitutes
 pub mod PlanOrders
 pub mod ReviewSubstitutes
+pub mod CircleSubstitutes
 -- the number that no refusal has
 pub mod UnusedNumber
 -- joining: laws of quorums, its promise proved, what the promise comes to, and substitutes

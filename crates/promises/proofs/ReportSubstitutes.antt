@@ -11,7 +11,7 @@ use lib.Seq.{take-at}
 use Rattle.sets.specs.Ascii.{ascii}
 use Rattle.sets.specs.Sets.{Sub, full}
 use Rattle.sets.specs.Bytes.{littleEndian, fromLittleEndian}
-use Rattle.sets.proofs.Sets.{sub-refl, sub-antisym}
+use Rattle.sets.proofs.Sets.{sub-refl}
 use Rattle.records.specs.declared.record.Record.the-variants.{End}
 use Rattle.records.specs.Records.{encode}
 use Rattle.records.specs.Outcomes.{refused, success}
@@ -22,97 +22,104 @@ use Rattle.log.specs.Buffers.{Delivered, deliver}
 use Rattle.log.proofs.Delivering.{deliver-fits}
 use Rattle.thresholds.specs.declared.Thresholds.{Thresholds}
 use Rattle.spans.specs.SpanCores.{SpanCore, Mem}
-use Rattle.spans.specs.Reports.{groupsOf}
 use Rattle.thresholds.specs.Ranges.{plain}
-use Rattle.spans.specs.KeptGroups.{kept}
-use Rattle.spans.specs.Encoding.{encodeCores, reportBytes, decodeCores, recordsAfter}
-use Rattle.spans.specs.GroupStatement.{Has, GroupStatement, ReportAsked}
-use Rattle.spans.proofs.Decoding.{last-four}
+use Rattle.spans.specs.CircleRecords.{shownRecords}
+use Rattle.spans.specs.Encoding.{encodeCores, reportBytes, reportRecords, decodeCores, recordsAfter}
+use Rattle.spans.specs.GroupStatement.{GroupStatement, ReportAsked}
+use Rattle.spans.proofs.Decoding.{last-four, report-said}
 use Rattle.spans.proofs.MostGroups.{report-length}
 use Rattle.spans.proofs.Reviews.{all-reviewed}
-use Rattle.spans.proofs.GroupLists.{groups-stated, kept-plain}
+use Rattle.spans.proofs.CircleStated.{statement-unique, report-stated}
 use Rattle.groups.specs.GroupReports.{ReportsGroups}
 use Rattle.promises.specs.D1.{d1Words}
-use Rattle.promises.proofs.SmallDays.{computing, still, d1-lent, still-lent, d1-plain, still-plain, triple, couple, d1-groups, allFour}
+use Rattle.promises.proofs.SmallDays.{computing, still, d1-lent, still-lent, d1-plain, still-plain, triple, couple, d1-records, allFour}
 
--- a record of the same order, span and members is the same
-same-core : (c d : SpanCore) → Has d (c .order) (c .first) (c .last) → d .members ≡ c .members → d ≡ c
-same-core c d h e =
-    ap (λ (x : ℕ). record { order = x; first = d .first; last = d .last; members = d .members }) (h .its-order)
-    ∙ ap (λ (x : ℕ). record { order = c .order; first = x; last = d .last; members = d .members }) (h .its-first)
-    ∙ ap (λ (x : ℕ). record { order = c .order; first = c .first; last = x; members = d .members }) (h .its-last)
-    ∙ ap (λ (x : ℕ). record { order = c .order; first = c .first; last = c .last; members = x }) e
+-- The statement leaves no choice of the records: a list of which it holds is the report's.
+pub stated-shown : {n T : ℕ} {ws : List ℕ} {base : ℕ} {least : Thresholds} (xs : List SpanCore) → GroupStatement n T ws base least xs → LentDay n T ws → Sub base (full n)
+    → xs ≡ shownRecords n T ws base least
+stated-shown xs s d r = statement-unique xs _ s (report-stated d r)
 
--- The statement leaves no choice of the records: two lists of which it holds have the same.
-pub stated-same : {n T : ℕ} {ws : List ℕ} {base : ℕ} {least : Thresholds} (xs ys : List SpanCore) → GroupStatement n T ws base least xs → GroupStatement n T ws base least ys
-    → (c : SpanCore) → Mem c xs → Mem c ys
-stated-same {n} {T} {ws} {base} {least} xs ys x y c i =
-    let s = x .span c i in
-    let e = x .exactly (c .order) (c .first) (c .last) (x .order c i) (s .0) (s .1) in
-    let f = y .exactly (c .order) (c .first) (c .last) (x .order c i) (s .0) (s .1) in
-    let d = f .1 (e .0 (c, i, record { its-order = refl; its-first = refl; its-last = refl })) in
-    go (d .0) (d .1) (d .2)
-  where
-    go : (d : SpanCore) → Mem d ys → Has d (c .order) (c .first) (c .last) → Mem c ys
-    go d j h =
-        let a = x .largest c (d .members) i (rw (h .its-order, h .its-first, h .its-last) at (y .members d j)) in
-        let b = y .largest d (c .members) j (rw (h .its-order, h .its-first, h .its-last) (x .members c i)) in
-        rw (same-core c d h (sub-antisym _ _ a b)) at j
-
--- A group that is kept of the day's, and is left out.
+-- A record of the report that is left out.
 pub group-left-out : {n T : ℕ} {ws : List ℕ} {base : ℕ} {least : Thresholds} (xs : List SpanCore) → GroupStatement n T ws base least xs → LentDay n T ws → Sub base (full n)
-    → (c : SpanCore) → Mem c (kept least (groupsOf n T ws base)) → (Mem c xs → ⊥) → ⊥
-group-left-out {n} {T} {ws} {base} {least} xs s d r c i h = h (stated-same (kept least (groupsOf n T ws base)) xs (groups-stated n T ws base least d r) s c i)
+    → (c : SpanCore) → Mem c (shownRecords n T ws base least) → (Mem c xs → ⊥) → ⊥
+group-left-out xs s d r c i h = h (rw (stated-shown xs s d r) i)
 
--- A record that is none of the groups that are kept of the day's.
+-- A record that is none of the report's.
 pub not-maximal : {n T : ℕ} {ws : List ℕ} {base : ℕ} {least : Thresholds} (xs : List SpanCore) → GroupStatement n T ws base least xs → LentDay n T ws → Sub base (full n)
-    → (c : SpanCore) → Mem c xs → (Mem c (kept least (groupsOf n T ws base)) → ⊥) → ⊥
-not-maximal {n} {T} {ws} {base} {least} xs s d r c i h = h (stated-same xs (kept least (groupsOf n T ws base)) s (groups-stated n T ws base least d r) c i)
+    → (c : SpanCore) → Mem c xs → (Mem c (shownRecords n T ws base least) → ⊥) → ⊥
+not-maximal xs s d r c i h = h (rw (stated-shown xs s d r) at i)
 
 -- A record that is shown twice.
 pub group-twice : {n T : ℕ} {ws : List ℕ} {base : ℕ} {least : Thresholds} (xs ys zs : List SpanCore) (c : SpanCore) → GroupStatement n T ws base least (xs ++ (c ∷ (ys ++ (c ∷ zs)))) → ⊥
-group-twice xs ys zs c s = s .once xs ys zs c c refl (record { its-order = refl; its-first = refl; its-last = refl })
+group-twice xs ys zs c s = s .once xs ys zs c c refl refl
 
 -- A record of order 0.
 pub order-zero : {n T : ℕ} {ws : List ℕ} {base : ℕ} {least : Thresholds} (xs : List SpanCore) → GroupStatement n T ws base least xs → (c : SpanCore) → Mem c xs → c .order ≡ 0 → ⊥
 order-zero xs s c i e = omega (arith, s .order c i)
 
--- the plain report keeps both of D1's groups
-d1-kept : kept plain (groupsOf 4 3 d1Words (full 4)) ≡ triple ∷ couple ∷ []
-d1-kept = kept-plain d1-lent (sub-refl _) ∙ d1-groups
+-- a list of which D1's statement holds is its report,
+d1-stated : (xs : List SpanCore) → GroupStatement 4 3 d1Words (full 4) plain xs → xs ≡ triple ∷ couple ∷ []
+d1-stated xs s = stated-shown xs s d1-lent (sub-refl _) ∙ d1-records
 
--- a list of which D1's statement holds has the first,
+-- so it has the first group,
 pub d1-triple : (xs : List SpanCore) → GroupStatement 4 3 d1Words (full 4) plain xs → Mem triple xs
-d1-triple xs s = stated-same (kept plain (groupsOf 4 3 d1Words (full 4))) xs (groups-stated 4 3 d1Words (full 4) plain d1-lent (sub-refl _)) s triple (rw d1-kept (List·Memᴰ·head refl))
+d1-triple xs s = rw (d1-stated xs s) (List·Memᴰ·head refl)
 
--- and no group of D1 has other members than these two
-d1-members : (c : SpanCore) → Mem c (kept plain (groupsOf 4 3 d1Words (full 4))) → (c .members ≡ 7) ⊎ (c .members ≡ 12)
-d1-members c i = ⊎-elim (λ e. inl (ap (λ (x : SpanCore). x .members) e)) (λ j. inr (ap (λ (x : SpanCore). x .members) (List·Memᴰ·eq-of-singleton j)))
-    (List·Memᴰ·cases-cons (rw d1-kept at i))
+-- and no record has other members than these two
+d1-members : (xs : List SpanCore) → GroupStatement 4 3 d1Words (full 4) plain xs → (c : SpanCore) → Mem c xs → (c .members ≡ 7) ⊎ (c .members ≡ 12)
+d1-members xs s c i = ⊎-elim (λ e. inl (ap (λ (x : SpanCore). x .members) e)) (λ j. inr (ap (λ (x : SpanCore). x .members) (List·Memᴰ·eq-of-singleton j)))
+    (List·Memᴰ·cases-cons (rw (d1-stated xs s) at i))
 
 -- a report that has this group has more than 10 bytes
 longer : (xs : List SpanCore) → Mem triple xs → 10 < length (reportBytes 4 3 xs)
 longer [] i = absurd (List·Memᴰ·not-nil i)
 longer (x ∷ xs) i = omega (arith, report-length 4 3 (x ∷ xs))
 
+-- two answers that are the same have the same bytes in front
+delivered-same : (xs ys us vs : List ℕ) → _≡_ {A = Delivered} (record { answer = success (length xs); buffer = xs ++ us }) (record { answer = success (length ys); buffer = ys ++ vs }) → xs ≡ ys
+delivered-same xs ys us vs e =
+    sym (take-at xs us (length ys) (success-same (ap (λ (x : Delivered). x .answer) e))) ∙ ap (λ (x : Delivered). take (length ys) (x .buffer)) e ∙ take-at ys vs _ refl
+
+-- Where a call keeps the promise, whatever records it is made of, and answers for two days alike, they have the same records;
+pub same-records : {call : ℕ → ℕ → List ℕ → ℕ → Thresholds → List ℕ → Delivered} {groups : ℕ → ℕ → List ℕ → ℕ → Thresholds → List SpanCore} → ReportsGroups call groups
+    → {n T : ℕ} {ws ws′ : List ℕ} {base base′ : ℕ} {least least′ : Thresholds} → ReportAsked n T ws base least → ReportAsked n T ws′ base′ least′
+    → ((buffer : List ℕ) → call n T ws base least buffer ≡ call n T ws′ base′ least′ buffer) → groups n T ws base least ≡ groups n T ws′ base′ least′
+same-records {call} {groups} p {n} {T} {ws} {ws′} {base} {base′} {least} {least′} a a′ f =
+    let bytes = reportBytes n T (groups n T ws base least) in
+    let bytes′ = reportBytes n T (groups n T ws′ base′ least′) in
+    let lent = bytes ++ bytes′ in
+    let long = length-append bytes bytes′ in
+    let same : bytes ≡ bytes′ = delivered-same bytes bytes′ _ _ (sym (p .succeeds n T ws base least lent a (omega arith)) ∙ f lent ∙ p .succeeds n T ws′ base′ least′ lent a′ (omega arith)) in
+    sym (p .said n T ws base least a) ∙ ap reportRecords same ∙ p .said n T ws′ base′ least′ a′
+
+-- and where it delivers the report of some records, the statement holds of these
+pub promised-records : {call : ℕ → ℕ → List ℕ → ℕ → Thresholds → List ℕ → Delivered} {groups : ℕ → ℕ → List ℕ → ℕ → Thresholds → List SpanCore} → ReportsGroups call groups
+    → {n T : ℕ} {ws : List ℕ} {base : ℕ} {least : Thresholds} → ReportAsked n T ws base least
+    → (xs : List SpanCore) → reportRecords (reportBytes n T xs) ≡ xs → ((buffer : List ℕ) → call n T ws base least buffer ≡ deliver (success (reportBytes n T xs)) buffer)
+    → GroupStatement n T ws base least xs
+promised-records {call} {groups} p {n} {T} {ws} {base} {least} a xs said f =
+    let ours = reportBytes n T (groups n T ws base least) in
+    let theirs = reportBytes n T xs in
+    let lent = ours ++ theirs in
+    let long = length-append ours theirs in
+    let same : theirs ≡ ours = delivered-same theirs ours _ _ (sym (f lent ∙ deliver-fits theirs lent (omega arith)) ∙ p .succeeds n T ws base least lent a (omega arith)) in
+    let e : xs ≡ groups n T ws base least = sym said ∙ ap reportRecords same ∙ p .said n T ws base least a in
+    rw e (p .stated n T ws base least a)
+
 -- An empty report for all days: whatever records the promise is made of, no call that delivers the report without groups for every day keeps it.
 pub empty-report : (call : ℕ → ℕ → List ℕ → ℕ → Thresholds → List ℕ → Delivered) (groups : ℕ → ℕ → List ℕ → ℕ → Thresholds → List SpanCore)
     → ((n T : ℕ) (ws buffer : List ℕ) → LentDay n T ws → call n T ws (full n) plain buffer ≡ deliver (success (reportBytes n T [])) buffer) → ReportsGroups call groups → ⊥
 empty-report call groups e p =
-    let bytes = reportBytes 4 3 (groups 4 3 d1Words (full 4) plain) in
-    let l = longer _ (d1-triple _ (p .stated 4 3 d1Words (full 4) plain d1-plain)) in
-    let none : length (reportBytes 4 3 []) ≡ 10 = report-length 4 3 [] in
-    let f = sym (e 4 3 d1Words bytes d1-lent ∙ deliver-fits (reportBytes 4 3 []) bytes (omega (arith, none))) ∙ p .succeeds 4 3 d1Words (full 4) plain bytes d1-plain (le-refl _) in
-    omega (arith, none, success-same (ap (λ (x : Delivered). x .answer) f))
+    let s = promised-records p d1-plain [] (report-said 4 3 [] (λ c i. absurd (List·Memᴰ·not-nil i)) (omega arith)) (λ buffer. e 4 3 d1Words buffer d1-lent) in
+    List·Memᴰ·not-nil (d1-triple [] s)
 
 -- D1's report without its second group
 pub second-left-out : GroupStatement 4 3 d1Words (full 4) plain (triple ∷ []) → ⊥
-second-left-out s = group-left-out (triple ∷ []) s d1-lent (sub-refl _) couple (rw d1-kept (List·Memᴰ·tail (List·Memᴰ·head refl)))
-    (λ i. let z : _≡_ {A = ℕ} 12 7 = ap (λ (x : SpanCore). x .members) (List·Memᴰ·eq-of-singleton i) in omega arith)
+second-left-out s = let z : _≡_ {A = ℕ} 1 2 = ap length (d1-stated _ s) in omega arith
 
 -- D1's report with the core of order 1 on 0 to 1, which is not maximal, among its records: wherever it stands, and so added once, and twice
 pub core-not-maximal : (xs : List SpanCore) → GroupStatement 4 3 d1Words (full 4) plain xs → Mem allFour xs → ⊥
-core-not-maximal xs s i = not-maximal xs s d1-lent (sub-refl _) allFour i (λ j. ⊎-elim (λ e. omega arith) (λ e. omega arith) (d1-members allFour j))
+core-not-maximal xs s i = ⊎-elim (λ e. omega arith) (λ e. omega arith) (d1-members xs s allFour i)
 
 pub added-once : GroupStatement 4 3 d1Words (full 4) plain (triple ∷ allFour ∷ couple ∷ []) → ⊥
 added-once s = core-not-maximal _ s (List·Memᴰ·tail (List·Memᴰ·head refl))
@@ -120,22 +127,29 @@ added-once s = core-not-maximal _ s (List·Memᴰ·tail (List·Memᴰ·head refl
 pub added-twice : GroupStatement 4 3 d1Words (full 4) plain (triple ∷ allFour ∷ allFour ∷ couple ∷ []) → ⊥
 added-twice s = core-not-maximal _ s (List·Memᴰ·tail (List·Memᴰ·head refl))
 
--- D1's first group with fewer members
+-- D1's first group with fewer members, and with more
 abbrev fewer : SpanCore
 fewer = record { order = 2; first = 0; last = 1; members = 3 }
 
-pub fewer-members : (xs : List SpanCore) → GroupStatement 4 3 d1Words (full 4) plain xs → Mem fewer xs → ⊥
-fewer-members xs s i = not-maximal xs s d1-lent (sub-refl _) fewer i (λ j. ⊎-elim (λ e. omega arith) (λ e. omega arith) (d1-members fewer j))
+abbrev more : SpanCore
+more = record { order = 2; first = 0; last = 1; members = 15 }
 
--- a list without members is empty
-pub empty : (xs : List SpanCore) → ((c : SpanCore) → Mem c xs → ⊥) → xs ≡ []
-empty [] h = refl
-empty (c ∷ xs) h = absurd (h c (List·Memᴰ·head refl))
+pub fewer-members : (xs : List SpanCore) → GroupStatement 4 3 d1Words (full 4) plain xs → Mem fewer xs → ⊥
+fewer-members xs s i = ⊎-elim (λ e. omega arith) (λ e. omega arith) (d1-members xs s fewer i)
+
+pub more-members : (xs : List SpanCore) → GroupStatement 4 3 d1Words (full 4) plain xs → Mem more xs → ⊥
+more-members xs s i = ⊎-elim (λ e. omega arith) (λ e. omega arith) (d1-members xs s more i)
 
 -- a day without contacts has no groups
 none-still : {call : ℕ → ℕ → List ℕ → ℕ → Thresholds → List ℕ → Delivered} {groups : ℕ → ℕ → List ℕ → ℕ → Thresholds → List SpanCore} → ReportsGroups call groups → groups 4 3 still (full 4) plain ≡ []
 unfolding computing
-none-still {call} {groups} p = empty (groups 4 3 still (full 4) plain) (λ c i. List·Memᴰ·not-nil (stated-same (groups 4 3 still (full 4) plain) [] (p .stated 4 3 still (full 4) plain still-plain) (groups-stated 4 3 still (full 4) plain still-lent (sub-refl _)) c i))
+none-still p = stated-shown _ (p .stated 4 3 still (full 4) plain still-plain) still-lent (sub-refl _)
+
+-- A report that is the same for all days, whatever it says.
+pub fixed-report : (f : ℕ → ℕ → List ℕ → Delivered) (groups : ℕ → ℕ → List ℕ → ℕ → Thresholds → List SpanCore) → ReportsGroups (λ n T ws base least buffer. f n T buffer) groups → ⊥
+fixed-report f groups p =
+    let same : groups 4 3 d1Words (full 4) plain ≡ [] = same-records p d1-plain still-plain (λ buffer. refl) ∙ none-still p in
+    List·Memᴰ·not-nil (rw same at (d1-triple _ (p .stated 4 3 d1Words (full 4) plain d1-plain)))
 
 -- 9 before measuring the answer: judged by any bound that n and T decide. A day without groups has a report of 10 bytes, and D1 a longer one.
 pub bound-before-measuring : (call : ℕ → ℕ → List ℕ → ℕ → Thresholds → List ℕ → Delivered) (groups : ℕ → ℕ → List ℕ → ℕ → Thresholds → List SpanCore) (bound : ℕ → ℕ → ℕ)

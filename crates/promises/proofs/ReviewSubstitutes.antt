@@ -1,15 +1,13 @@
 -- Substitutes for a review of badges, each refuted on D1 without badge 2, where badges 0 and 1 are in contact in ticks 0 and 1, and no others.
-use mathlib.Core.Path.{_≡_, refl, sym, ap, _∙_}
-use mathlib.Core.List.{List, [], _∷_, _++_, map, List·Memᴰ·head, List·Memᴰ·tail, List·Memᴰ·not-nil, List·Memᴰ·cases-cons, List·Memᴰ·eq-of-singleton}
+use mathlib.Core.Path.{_≡_, refl, sym, ap, subst, _∙_}
+use mathlib.Core.List.{List, [], _∷_, map, List·Memᴰ·head, List·Memᴰ·cases-cons, List·Memᴰ·eq-of-singleton, Memᴰ·of-map}
 use mathlib.Core.Logic.{⊎-elim}
-use Prim.Native.Nat.{ℕ, _+_, _≤_}
+use Prim.Native.Nat.{ℕ, _≤_}
 use native.Mathlib.Omega.{arith}
-use lib.ListN.{length, getD, take, replicate, length-append, length-replicate}
-use lib.Seq.{take-at}
+use lib.ListN.{getD, take, replicate, length-replicate}
 use Rattle.sets.specs.Sets.{In, Sub, intersection, full}
 use Rattle.sets.proofs.Sets.{in-test, out-test, is-sub-of}
 use Rattle.records.specs.Outcomes.{success}
-use Rattle.records.proofs.Outcomes.{success-same}
 use Rattle.log.specs.Buffers.{Delivered}
 use Rattle.thresholds.specs.declared.Thresholds.{Thresholds}
 use Rattle.thresholds.specs.Ranges.{plain}
@@ -17,13 +15,16 @@ use Rattle.spans.specs.Reviews.{Review}
 use Rattle.spans.specs.SpanCores.{SpanCore, Mem}
 use Rattle.spans.specs.Reports.{groupsOf}
 use Rattle.spans.specs.KeptGroups.{kept}
+use Rattle.spans.specs.CircleRecords.{withMembers, circleRecords, shownRecords}
 use Rattle.spans.specs.Plans.{partsOf}
-use Rattle.spans.specs.Encoding.{reportBytes, reportRecords, planRecords}
-use Rattle.spans.specs.GroupStatement.{Has, ReportAsked}
+use Rattle.spans.specs.Encoding.{planRecords}
+use Rattle.spans.specs.GroupStatement.{ReportAsked}
+use Rattle.spans.specs.CoreStatement.{Has}
 use Rattle.spans.specs.PlanStatement.{Runs, none, run, sumOfOrders, PlanAsked}
 use Rattle.spans.proofs.Reviews.{review-of, all-reviewed}
 use Rattle.spans.proofs.KeptRecords.{of-kept}
-use Rattle.spans.proofs.GroupLists.{groups-stated, kept-plain}
+use Rattle.spans.proofs.RecordLists.{of-circle-records}
+use Rattle.spans.proofs.StatedRecords.{of-day}
 use Rattle.spans.proofs.PlanParts.{parts-stated}
 use Rattle.groups.specs.GroupReports.{ReportsGroups}
 use Rattle.groups.specs.ShiftPlans.{PlansShifts}
@@ -31,7 +32,7 @@ use Rattle.promises.specs.CoreNumbers.{GivesCoreNumbers}
 use Rattle.promises.specs.D1.{d1Words}
 use Rattle.promises.proofs.SmallDays.{computing, d1-lent, d1-plain, triple, d1-groups}
 use Rattle.promises.proofs.NumberSubstitutes.{d1-span, promised-numbers}
-use Rattle.promises.proofs.ReportSubstitutes.{stated-same, d1-triple}
+use Rattle.promises.proofs.ReportSubstitutes.{stated-shown, d1-triple, same-records}
 use Rattle.promises.proofs.PlanPromise.{sums-same, plan-kept, plan-succeeds}
 
 -- D1's badges without 2
@@ -72,30 +73,12 @@ numbers-ignoring f p =
     let z : _≡_ {A = ℕ} 2 1 = ap (λ (l : List ℕ). getD l 0 0) (sym a ∙ b) in
     omega arith
 
--- the report, whatever records the promise is made of: where the set makes no difference to the bytes, it makes none to the records that they say
-module _ (f : ℕ → ℕ → List ℕ → Thresholds → List ℕ → Delivered) (groups : ℕ → ℕ → List ℕ → ℕ → Thresholds → List SpanCore)
-    (p : ReportsGroups (λ n T ws base least buffer. f n T ws least buffer) groups) where
-  bytes : ℕ → List ℕ
-  bytes base = reportBytes 4 3 (groups 4 3 d1Words base plain)
-
-  lent : List ℕ
-  lent = bytes (full 4) ++ bytes others
-
-  same-bytes : bytes (full 4) ≡ bytes others
-  unfolding bytes lent
-  same-bytes =
-      let long = length-append (bytes (full 4)) (bytes others) in
-      let a = p .succeeds 4 3 d1Words (full 4) plain lent d1-plain (omega arith) in
-      let b = p .succeeds 4 3 d1Words others plain lent others-plain (omega arith) in
-      let size : length (bytes (full 4)) ≡ length (bytes others) = success-same (ap (λ (x : Delivered). x .answer) (sym a ∙ b)) in
-      sym (take-at (bytes (full 4)) _ (length (bytes others)) size) ∙ ap (λ (x : Delivered). take (length (bytes others)) (x .buffer)) (sym a ∙ b) ∙ take-at (bytes others) _ _ refl
-
-  pub report-ignoring : ⊥
-  unfolding bytes
-  report-ignoring =
-      let same : groups 4 3 d1Words (full 4) plain ≡ groups 4 3 d1Words others plain = sym (p .said 4 3 d1Words (full 4) plain d1-plain) ∙ ap reportRecords same-bytes ∙ p .said 4 3 d1Words others plain others-plain in
-      let there : Mem triple (groups 4 3 d1Words others plain) = rw same at (d1-triple _ (p .stated 4 3 d1Words (full 4) plain d1-plain)) in
-      not-two (p .stated 4 3 d1Words others plain others-plain .members triple there .within .at 2 two-of-triple)
+-- the report, whatever records the promise is made of
+pub report-ignoring : (f : ℕ → ℕ → List ℕ → Thresholds → List ℕ → Delivered) (groups : ℕ → ℕ → List ℕ → ℕ → Thresholds → List SpanCore)
+    → ReportsGroups (λ n T ws base least buffer. f n T ws least buffer) groups → ⊥
+report-ignoring f groups p =
+    let there : Mem triple (groups 4 3 d1Words others plain) = rw (same-records p d1-plain others-plain (λ buffer. refl)) at (d1-triple _ (p .stated 4 3 d1Words (full 4) plain d1-plain)) in
+    not-two (of-day (reviewed .named) (p .stated 4 3 d1Words others plain others-plain) triple there .within .at 2 two-of-triple)
 
 -- the plan: around badge 0 in three parts the sum is 4 with badge 2, and 2 without it
 zero-asked : (base : ℕ) → Review 4 base → Sub 1 base → PlanAsked 4 3 d1Words base 1 3
@@ -128,13 +111,13 @@ plan-ignoring f p =
 
 -- ---- the full report's records, with other members
 
--- 0 and 1 on 0 to 1: a record of the report without badge 2, and of an order and span that no record of the full report has
+-- 0 and 1 on 0 to 1: a record of the report without badge 2, and of an order and span that no core of the full report has
 abbrev pair : SpanCore
 pair = record { order = 1; first = 0; last = 1; members = 3 }
 
-others-groups : groupsOf 4 3 d1Words others ≡ pair ∷ []
+others-records : shownRecords 4 3 d1Words others plain ≡ pair ∷ []
 unfolding computing
-others-groups = refl
+others-records = refl
 
 pair-new : (d : SpanCore) → Mem d (groupsOf 4 3 d1Words (full 4)) → Has pair (d .order) (d .first) (d .last) → ⊥
 pair-new d i h = ⊎-elim
@@ -142,31 +125,42 @@ pair-new d i h = ⊎-elim
     (λ j. omega (arith, h .its-last, ap (λ (x : SpanCore). x .last) (List·Memᴰ·eq-of-singleton j)))
     (List·Memᴰ·cases-cons (rw d1-groups at i))
 
--- No call whose records have orders and spans of the full report's alone, with whatever members.
+-- No call whose records have orders and spans of the full report's cores alone, with whatever members.
 pub from-the-full-report : (call : ℕ → ℕ → List ℕ → ℕ → Thresholds → List ℕ → Delivered) (groups : ℕ → ℕ → List ℕ → ℕ → Thresholds → List SpanCore)
     → ((n T : ℕ) (ws : List ℕ) (base : ℕ) (least : Thresholds) (c : SpanCore) → Mem c (groups n T ws base least) → (d : SpanCore) × Mem d (groupsOf n T ws (full n)) × Has c (d .order) (d .first) (d .last))
     → ReportsGroups call groups → ⊥
 from-the-full-report call groups from p =
-    let kept-pair : Mem pair (kept plain (groupsOf 4 3 d1Words others)) = rw (kept-plain d1-lent (reviewed .named), others-groups) (List·Memᴰ·head refl) in
-    let there = stated-same _ _ (groups-stated 4 3 d1Words others plain d1-lent (reviewed .named)) (p .stated 4 3 d1Words others plain others-plain) pair kept-pair in
+    let there : Mem pair (groups 4 3 d1Words others plain) =
+    rw (stated-shown _ (p .stated 4 3 d1Words others plain others-plain) d1-lent (reviewed .named), others-records) (List·Memᴰ·head refl) in
     let x = from 4 3 d1Words others plain pair there in
     pair-new (x .0) (x .1) (x .2)
 
--- So none that filters the members of the full report.
+-- So none that filters the members of the full report, whether of its records or of its cores before they are split.
 unfoldable pub among : ℕ → SpanCore → SpanCore
-among base c = record { order = c .order; first = c .first; last = c .last; members = intersection (c .members) base }
+among base c = withMembers c (intersection (c .members) base)
+
+-- a record that differs from another in its members alone has the order and span that the other has
+with-has : {c : SpanCore} (d : SpanCore) {k first last : ℕ} (s : ℕ) → withMembers d s ≡ c → Has d k first last → Has c k first last
+with-has d {k} {first} {last} s e h = subst (λ (x : SpanCore). Has x k first last) e (record { its-order = h .its-order; its-first = h .its-first; its-last = h .its-last })
 
 of-among : (base : ℕ) (cs : List SpanCore) {c : SpanCore} → Mem c (map (among base) cs) → (d : SpanCore) × Mem d cs × Has c (d .order) (d .first) (d .last)
 unfolding among
-of-among base [] i = absurd (List·Memᴰ·not-nil i)
-of-among base (d ∷ cs) i = ⊎-elim
-    (λ e. (d, List·Memᴰ·head refl, record { its-order = ap (λ (x : SpanCore). x .order) e; its-first = ap (λ (x : SpanCore). x .first) e; its-last = ap (λ (x : SpanCore). x .last) e }))
-    (λ j. let r = of-among base cs j in (r .0, List·Memᴰ·tail (r .1), r .2))
-    (List·Memᴰ·cases-cons i)
+of-among base cs i = let r = Memᴰ·of-map (among base) cs i in (r .0, r .1, with-has (r .0) _ (r .2) (record { its-order = refl; its-first = refl; its-last = refl }))
 
 pub filtered-members : (call : ℕ → ℕ → List ℕ → ℕ → Thresholds → List ℕ → Delivered)
-    → ReportsGroups call (λ n T ws base least. kept least (map (among base) (groupsOf n T ws (full n)))) → ⊥
-filtered-members call p = from-the-full-report call _ (λ n T ws base least c i. of-among base (groupsOf n T ws (full n)) (of-kept least _ i .0)) p
+    → ReportsGroups call (λ n T ws base least. kept least (map (among base) (shownRecords n T ws (full n) plain))) → ⊥
+unfolding shownRecords
+filtered-members call p = from-the-full-report call _ (λ n T ws base least c i.
+    let d = of-among base _ (of-kept least _ i .0) in
+    let r = of-circle-records n ws _ (of-kept plain _ (d .1) .0) in
+    (r .0, r .1, rw (← r .2 .same) at (d .2))) p
+
+pub filtered-cores : (call : ℕ → ℕ → List ℕ → ℕ → Thresholds → List ℕ → Delivered)
+    → ReportsGroups call (λ n T ws base least. kept least (circleRecords n ws (map (among base) (groupsOf n T ws (full n))))) → ⊥
+filtered-cores call p = from-the-full-report call _ (λ n T ws base least c i.
+    let r = of-circle-records n ws _ (of-kept least _ i .0) in
+    let d = of-among base _ (r .1) in
+    (d .0, d .1, with-has (r .0) _ (r .2 .same) (d .2))) p
 
 -- ---- a part of score 0 that shows all n badges
 

@@ -30,6 +30,8 @@ use Rattle.spans.specs.PlanStatement.{PlanAsked}
 use Rattle.spans.specs.Judging.{reviewOf, planJudged}
 use Rattle.spans.proofs.SpanRows.{in-span, of-span}
 use Rattle.spans.proofs.Reviews.{all-reviewed}
+use Rattle.spans.proofs.SpanCircles.{day-small}
+use Rattle.circles.proofs.CircleLists.{pairs-less}
 use Rattle.spans.proofs.Judging.{review-passed, all-review}
 use Rattle.groups.proofs.PlanTheorems.{plan-passes}
 use Rattle.groups.specs.Calls.{coreNumbersOf, reportOf, planOf}
@@ -137,7 +139,12 @@ module _ {n T : ℕ} {ws : List ℕ} {base : ℕ} (d : LentDay n T ws) (r : Revi
 
   pub left-spans : SameSpans n T ws left base (full n)
   unfolding here there
-  left-spans = record { on = λ first last m h. record { at = left-core first last m h } }
+  left-spans = record {
+    small = day-small d base (r .named);
+    on = λ first last m h. record { at = left-core first last m h };
+    forth = λ first last m h. kept-pairs first last m h;
+    back = λ first last m h. pairs-less (r .named) (old-pairs first last m h);
+  }
 
   -- both pass what is judged first
   passes : {o p : Outcome (List ℕ)} (buffer : List ℕ) → o ≡ p → deliver (andThen (reviewOf n T ws base) (λ x. o)) buffer ≡ deliver (andThen (reviewOf n T left (full n)) (λ x. p)) buffer

@@ -1,38 +1,48 @@
--- Two days, each with a base set, that have the same cores of order 1 and more on every span have the same core numbers and groups, and the same parts of
--- a plan but for the members at score 0, which are the base sets.
+-- Two days, each with a base set, that have the same cores of order 1 and more on every span, and the same pairs between members of the first, have the
+-- same core numbers and records of a report, and the same parts of a plan but for the members at score 0, which are the base sets.
 use mathlib.Core.Path.{_≡_, refl, sym, ap, ap₂, _∙_}
 use mathlib.Core.Bool.{Bool, true, false}
-use mathlib.Core.List.{List, [], _∷_, map}
-use Prim.Native.Nat.{ℕ, zero, suc, _≤_, _<_, zero-le, suc-le-suc}
+use mathlib.Core.List.{List, [], _∷_, _++_, map, List·Memᴰ·head, List·Memᴰ·tail}
+use Prim.Native.Nat.{ℕ, zero, suc, _^_, _≤_, _<_, zero-le, suc-le-suc}
 use native.Mathlib.Nat.{le-trans}
 use native.Mathlib.Omega.{arith}
 use lib.Dec.{leb, ltb}
 use borrow.Author.Tests.{leb-true}
 use Rattle.sets.specs.Bools.{_and_, _or_, isnt}
+use Rattle.sets.specs.Sets.{Sub}
+use Rattle.sets.specs.Members.{capacity}
 use Rattle.sets.specs.Tables.{keepIf}
 use Rattle.sets.proofs.Bools.{clash, and-in, and-left, and-right, same-test, all-same}
+use Rattle.sets.proofs.Sets.{sub-lt}
 use Rattle.sets.proofs.Concat.{concat-same, keep-nil}
 use Rattle.sets.proofs.Tables.{tabulate-same}
 use Rattle.records.specs.Outcomes.{success, refuseIf}
+use Rattle.cores.proofs.Degrees.{FewerPairs}
+use Rattle.cores.proofs.Cores.{core-sub}
 use Rattle.cores.proofs.Orders.{SameCores, number-among, score-among}
+use Rattle.circles.proofs.CircleLists.{pairs-less, circles-rows}
 use Rattle.cuts.proofs.Cuttings.{Cuts, one, more, cuts-fit, to-cuts}
 use Rattle.cuts.proofs.Sums.{best-ends, ends-same}
 use Rattle.spans.specs.Spans.{isSpan, spanNeighbours}
-use Rattle.spans.specs.SpanCores.{SpanCore, coreOn, hasCore}
+use Rattle.spans.specs.SpanCores.{SpanCore, Mem, coreOn, hasCore}
 use Rattle.spans.specs.Reports.{asLarge, same, isMaximal, isGroup, groupsOn, groupsFrom, groupsOf}
 use Rattle.thresholds.specs.declared.Thresholds.{Thresholds}
 use Rattle.thresholds.specs.Ranges.{inRange}
 use Rattle.spans.specs.KeptGroups.{kept}
+use Rattle.spans.specs.CircleRecords.{withMembers, circlesOf, recordsOf, circleRecords, shownRecords}
 use Rattle.spans.specs.Encoding.{reportBytes}
 use Rattle.spans.specs.Plans.{scoreOn, membersOn, partOn, partsFrom, partsOf}
 use Rattle.spans.specs.Judging.{coreNumberBytes, spanJudged, reportJudged}
 use Rattle.spans.proofs.SpanRows.{span-of}
-use Rattle.spans.proofs.GroupLists.{group-parts}
+use Rattle.spans.proofs.GroupLists.{of-groups, group-parts}
 use Rattle.promises.specs.Reviews.{membersAt, atScoreZero}
 
--- the same cores of order 1 and more on every span of T ticks
+-- the same cores of order 1 and more on every span of T ticks, and the same pairs between members of the first base set, which is one that a word holds
 pub record SameSpans (n T : ℕ) (xs ys : List ℕ) (base base′ : ℕ) : Type 0 where
+  pub small : base < 2 ^ capacity
   pub on : (first last : ℕ) → first ≤ last → last < T → SameCores (spanNeighbours n xs first last) (spanNeighbours n ys first last) base base′
+  pub forth : (first last : ℕ) → first ≤ last → last < T → FewerPairs base (spanNeighbours n xs first last) (spanNeighbours n ys first last)
+  pub back : (first last : ℕ) → first ≤ last → last < T → FewerPairs base (spanNeighbours n ys first last) (spanNeighbours n xs first last)
 
 module _ {n T : ℕ} {xs ys : List ℕ} {base base′ : ℕ} (f : SameSpans n T xs ys base base′) where
   core-same : (k first last : ℕ) → 1 ≤ k → first ≤ last → last < T → coreOn n xs base k first last ≡ coreOn n ys base′ k first last
@@ -88,7 +98,7 @@ module _ {n T : ℕ} {xs ys : List ℕ} {base base′ : ℕ} (f : SameSpans n T 
       cell (suc k) = ap₂ (λ (b : Bool) (s : ℕ). keepIf b (record { order = suc k; first = first; last = last; members = s } ∷ []))
           (ap₂ (λ (x y : Bool). leb 1 (suc k) and x and y) (has-same (suc k) first last (suc-le-suc zero-le) m h) (maximal-same k first last)) (core-same (suc k) first last (suc-le-suc zero-le) m h)
 
-  pub groups-same : groupsOf n T xs base ≡ groupsOf n T ys base′
+  groups-same : groupsOf n T xs base ≡ groupsOf n T ys base′
   unfolding groupsOf groupsFrom
   groups-same = concat-same T _ _ (λ first a. concat-same T _ _ (λ last b. cell first last b (leb first last) refl))
     where
@@ -96,9 +106,26 @@ module _ {n T : ℕ} {xs ys : List ℕ} {base base′ : ℕ} (f : SameSpans n T 
       cell first last h true e = ap (keepIf (leb first last)) (on-same first last (leb-true _ _ e) h)
       cell first last h false e = keep-nil _ _ (λ g. clash g e) ∙ sym (keep-nil _ _ (λ g. clash g e))
 
+  -- the same circles of each, and so the same records
+  circles-same : (c : SpanCore) → Mem c (groupsOf n T xs base) → circlesOf n xs c ≡ circlesOf n ys c
+  unfolding circlesOf coreOn
+  circles-same c i =
+      let s = of-groups n T xs base c i in
+      let within : Sub (c .members) base = rw (s .members) (core-sub (spanNeighbours n xs (c .first) (c .last)) base (c .order)) in
+      circles-rows (c .members) (sub-lt capacity (c .members) base within (f .small)) (pairs-less within (f .forth (c .first) (c .last) (s .rising) (s .inside))) (pairs-less within (f .back (c .first) (c .last) (s .rising) (s .inside)))
+
+  records-same : (cs : List SpanCore) → ((c : SpanCore) → Mem c cs → Mem c (groupsOf n T xs base)) → circleRecords n xs cs ≡ circleRecords n ys cs
+  unfolding circleRecords recordsOf
+  records-same [] h = refl
+  records-same (c ∷ cs) h = ap₂ (λ (ss : List ℕ) (rs : List SpanCore). map (withMembers c) ss ++ rs) (circles-same c (h c (List·Memᴰ·head refl))) (records-same cs (λ d i. h d (List·Memᴰ·tail i)))
+
+  pub shown-same : (least : Thresholds) → shownRecords n T xs base least ≡ shownRecords n T ys base′ least
+  unfolding shownRecords
+  shown-same least = ap (kept least) (records-same (groupsOf n T xs base) (λ c i. i) ∙ ap (circleRecords n ys) groups-same)
+
   pub report-judged : (least : Thresholds) → reportJudged n T xs base least ≡ reportJudged n T ys base′ least
   unfolding reportJudged
-  report-judged least = ap (λ (cs : List SpanCore). refuseIf (isnt (inRange least)) 17 0 (success (reportBytes n T (kept least cs)))) groups-same
+  report-judged least = ap (λ (cs : List SpanCore). refuseIf (isnt (inRange least)) 17 0 (success (reportBytes n T cs))) (shown-same least)
 
   -- and the same parts of a cutting, but for the members at score 0
   members-same : (k first last : ℕ) → first ≤ last → last < T → membersOn n xs base k first last ≡ membersAt base k (membersOn n ys base′ k first last)

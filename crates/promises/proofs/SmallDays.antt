@@ -5,7 +5,7 @@ use Prim.Native.Nat.{ℕ}
 use native.Mathlib.Omega.{arith}
 use lib.ListN.{replicate}
 use Rattle.sets.specs.Bools.{_and_, _or_, isnt, all}
-use Rattle.sets.specs.Sets.{bit, isSub, intersection, setOf, full, filterIn, filter, sizeIn, size}
+use Rattle.sets.specs.Sets.{bit, isSub, intersection, difference, setOf, full, filterIn, filter, sizeIn, size, smallest}
 use Rattle.sets.specs.Tables.{tabulate, concatBelow, keepIf}
 use Rattle.records.specs.Limits.{withinLimits}
 use Rattle.records.specs.Outcomes.{refuseIf, andThen}
@@ -16,6 +16,7 @@ use Rattle.log.specs.Buffers.{deliver}
 use Rattle.cores.specs.Graphs.{degree}
 use Rattle.cores.specs.Cores.{strip, strips, core}
 use Rattle.cores.specs.Orders.{largest, coreNumber, contains, score}
+use Rattle.circles.specs.Circles.{reaches, grow, grows, circle, firstCircle, circlesIn, circles}
 use Rattle.cuts.specs.Sums.{firstGreatest, sumWith, bestSum, endAfter, endsFrom, bestEnds}
 use Rattle.spans.specs.Spans.{isSpan, throughout, spanNeighbours}
 use Rattle.spans.specs.Contacts.{fellows}
@@ -23,6 +24,7 @@ use Rattle.spans.specs.SpanCores.{SpanCore, coreOn, hasCore}
 use Rattle.spans.specs.Reports.{asLarge, same, isMaximal, isGroup, groupsOn, groupsFrom, groupsOf}
 use Rattle.thresholds.specs.Ranges.{plain, inRange, areEnough}
 use Rattle.spans.specs.KeptGroups.{meets, kept}
+use Rattle.spans.specs.CircleRecords.{circlesOf, recordsOf, circleRecords, shownRecords}
 use Rattle.spans.specs.GroupStatement.{ReportAsked}
 use Rattle.spans.specs.Reviews.{isReview}
 use Rattle.spans.proofs.Reviews.{all-reviewed}
@@ -38,7 +40,7 @@ still = replicate 12 0
 
 -- all that is computed with
 unfoldable pub computing : ℕ
-unfolding badges d1Words still _and_ _or_ isnt all bit intersection setOf full filterIn filter sizeIn size tabulate withinLimits refuseIf andThen neighbours adjacent isTick isDay deliver checkOf degree strip strips core largest coreNumber isSpan throughout spanNeighbours coreNumberBytes spanJudged reviewOf isReview coreNumbersOf concatBelow keepIf coreOn hasCore asLarge same isMaximal isGroup groupsOn groupsFrom groupsOf inRange areEnough meets kept isSub contains score scoreOn partOn partsFrom partsOf fellows firstGreatest sumWith bestSum endAfter endsFrom bestEnds sumOfOrders
+unfolding badges d1Words still _and_ _or_ isnt all bit intersection difference setOf full filterIn filter sizeIn size smallest tabulate withinLimits refuseIf andThen neighbours adjacent isTick isDay deliver checkOf degree strip strips core largest coreNumber isSpan throughout spanNeighbours coreNumberBytes spanJudged reviewOf isReview coreNumbersOf concatBelow keepIf coreOn hasCore asLarge same isMaximal isGroup groupsOn groupsFrom groupsOf inRange areEnough meets kept reaches grow grows circle firstCircle circlesIn circles circlesOf recordsOf circleRecords shownRecords isSub contains score scoreOn partOn partsFrom partsOf fellows firstGreatest sumWith bestSum endAfter endsFrom bestEnds sumOfOrders
 computing = 0
 
 -- both are lent days
@@ -59,7 +61,7 @@ pub still-plain : ReportAsked 4 3 still (full 4) plain
 unfolding computing
 still-plain = record { lent = still-lent; reviewed = all-reviewed still-lent; range = refl }
 
--- D1's groups, with all badges under review
+-- D1's groups, with all badges under review, each of which is one circle
 abbrev pub triple : SpanCore
 triple = record { order = 2; first = 0; last = 1; members = 7 }
 
@@ -69,6 +71,10 @@ couple = record { order = 1; first = 0; last = 2; members = 12 }
 pub d1-groups : groupsOf 4 3 d1Words (full 4) ≡ triple ∷ couple ∷ []
 unfolding computing
 d1-groups = refl
+
+pub d1-records : shownRecords 4 3 d1Words (full 4) plain ≡ triple ∷ couple ∷ []
+unfolding computing
+d1-records = refl
 
 -- the core of order 1 on 0 to 1, which is not maximal
 abbrev pub allFour : SpanCore

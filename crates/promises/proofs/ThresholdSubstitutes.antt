@@ -14,36 +14,37 @@ use Rattle.thresholds.specs.declared.Thresholds.{Thresholds}
 use Rattle.spans.specs.Spans.{isSpan}
 use Rattle.spans.specs.SpanCores.{SpanCore, Mem, coreOn, hasCore}
 use Rattle.spans.specs.Reports.{asLarge, same, groupsOf}
-use Rattle.thresholds.specs.Ranges.{leastOf, inRange}
+use Rattle.thresholds.specs.Ranges.{leastOf, plain, inRange}
 use Rattle.spans.specs.KeptGroups.{meets, kept}
+use Rattle.spans.specs.CircleRecords.{circleRecords, shownRecords}
 use Rattle.spans.specs.GroupStatement.{GroupStatement}
 use Rattle.spans.proofs.KeptRecords.{in-kept, of-kept}
 use Rattle.spans.proofs.Reviews.{all-reviewed}
-use Rattle.spans.proofs.GroupLists.{groups-stated}
 use Rattle.groups.specs.GroupReports.{ReportsGroups}
 use Rattle.promises.specs.D1.{d1Words}
-use Rattle.promises.proofs.SmallDays.{computing, d1-lent, triple, couple, d1-groups, allFour}
-use Rattle.promises.proofs.ReportSubstitutes.{stated-same, empty}
+use Rattle.promises.proofs.SmallDays.{computing, d1-lent, triple, couple, d1-records, allFour}
+use Rattle.promises.proofs.ReportSubstitutes.{stated-shown}
 
 -- no call that judges by other thresholds than it is given keeps the promise
 abbrev Refuted : (Thresholds → Thresholds) → Type 0
-Refuted other = (call : ℕ → ℕ → List ℕ → ℕ → Thresholds → List ℕ → Delivered) → ReportsGroups call (λ n T ws base l. kept (other l) (groupsOf n T ws base)) → ⊥
+Refuted other = (call : ℕ → ℕ → List ℕ → ℕ → Thresholds → List ℕ → Delivered) → ReportsGroups call (λ n T ws base l. shownRecords n T ws base (other l)) → ⊥
 
--- So it is wherever that makes a difference to a group of D1, under any thresholds.
-pub judged-by-others : (other : Thresholds → Thresholds) (given : Thresholds) (c : SpanCore) → inRange given ≡ true → Mem c (groupsOf 4 3 d1Words (full 4)) → (meets (other given) c ≡ meets given c → ⊥) → Refuted other
+-- So it is wherever that makes a difference to a record of D1, under any thresholds.
+pub judged-by-others : (other : Thresholds → Thresholds) (given : Thresholds) (c : SpanCore) → inRange given ≡ true → Mem c (shownRecords 4 3 d1Words (full 4) plain) → (meets (other given) c ≡ meets given c → ⊥) → Refuted other
+unfolding shownRecords
 judged-by-others other given c r i h call p =
-    let groups = groupsOf 4 3 d1Words (full 4) in
-    let x = p .stated 4 3 d1Words (full 4) given (record { lent = d1-lent; reviewed = all-reviewed d1-lent; range = r }) in
-    let y = groups-stated 4 3 d1Words (full 4) given d1-lent (sub-refl _) in
+    let records = circleRecords 4 d1Words (groupsOf 4 3 d1Words (full 4)) in
+    let j : Mem c records = of-kept plain records i .0 in
+    let e : kept (other given) records ≡ kept given records = stated-shown _ (p .stated 4 3 d1Words (full 4) given (record { lent = d1-lent; reviewed = all-reviewed d1-lent; range = r })) d1-lent (sub-refl _) in
     h (same-test (meets (other given) c) (meets given c)
-    (λ e. of-kept given groups (stated-same (kept (other given) groups) (kept given groups) x y c (in-kept (other given) groups i e)) .1)
-    (λ e. of-kept (other given) groups (stated-same (kept given groups) (kept (other given) groups) y x c (in-kept given groups i e)) .1))
+    (λ m. let k = in-kept (other given) records j m in of-kept given records (rw e at k) .1)
+    (λ m. let k = in-kept given records j m in of-kept (other given) records (rw (← e) at k) .1))
 
-triple-there : Mem triple (groupsOf 4 3 d1Words (full 4))
-triple-there = rw d1-groups (List·Memᴰ·head refl)
+triple-there : Mem triple (shownRecords 4 3 d1Words (full 4) plain)
+triple-there = rw d1-records (List·Memᴰ·head refl)
 
-couple-there : Mem couple (groupsOf 4 3 d1Words (full 4))
-couple-there = rw d1-groups (List·Memᴰ·tail (List·Memᴰ·head refl))
+couple-there : Mem couple (shownRecords 4 3 d1Words (full 4) plain)
+couple-there = rw d1-records (List·Memᴰ·tail (List·Memᴰ·head refl))
 
 -- the least length: ignored, one too high, one too low
 pub ticks-ignored : Refuted (λ l. leastOf 1 (l .order) (l .members))
@@ -87,10 +88,10 @@ members-below = judged-by-others _ (leastOf 1 1 3) couple refl couple-there (λ 
 -- With a least number of 4 members D1 has no record, though order 1 on 0 to 1 has a core of four.
 pub four-none : (xs : List SpanCore) → GroupStatement 4 3 d1Words (full 4) (leastOf 1 1 4) xs → xs ≡ []
 unfolding computing
-four-none xs s = empty xs (λ c i. List·Memᴰ·not-nil (stated-same xs [] s (groups-stated 4 3 d1Words (full 4) (leastOf 1 1 4) d1-lent (sub-refl _)) c i))
+four-none xs s = stated-shown xs s d1-lent (sub-refl _)
 
 -- Domination judged among the records that pass: of the cores that meet the thresholds, those that no other of these equals or exceeds in both order
--- and span.
+-- and span, and of their circles those that meet them too.
 unfoldable pub coreAt : ℕ → List ℕ → ℕ → ℕ → ℕ → ℕ → SpanCore
 coreAt n ws base k first last = record { order = k; first = first; last = last; members = coreOn n ws base k first last }
 
@@ -101,12 +102,15 @@ unfoldable pub undominated : ℕ → ℕ → List ℕ → ℕ → Thresholds →
 undominated n T ws base l k first last = all (suc n) (λ k′. all T (λ first′. all T (λ last′.
     isnt (isSpan T first′ last′ and asLarge k first last k′ first′ last′ and passing n ws base l k′ first′ last′) or same k first last k′ first′ last′)))
 
-unfoldable pub filteredFirst : ℕ → ℕ → List ℕ → ℕ → Thresholds → List SpanCore
-filteredFirst n T ws base l = concatBelow T (λ first. concatBelow T (λ last. concatBelow (suc n) (λ k.
+unfoldable pub filteredCores : ℕ → ℕ → List ℕ → ℕ → Thresholds → List SpanCore
+filteredCores n T ws base l = concatBelow T (λ first. concatBelow T (λ last. concatBelow (suc n) (λ k.
     keepIf (leb first last and passing n ws base l k first last and undominated n T ws base l k first last) (coreAt n ws base k first last ∷ []))))
 
+unfoldable pub filteredFirst : ℕ → ℕ → List ℕ → ℕ → Thresholds → List SpanCore
+filteredFirst n T ws base l = kept l (circleRecords n ws (filteredCores n T ws base l))
+
 shows-four : filteredFirst 4 3 d1Words (full 4) (leastOf 1 1 4) ≡ allFour ∷ []
-unfolding computing filteredFirst undominated passing coreAt
+unfolding computing filteredFirst filteredCores undominated passing coreAt
 shows-four = refl
 
 pub domination-after-filter : (call : ℕ → ℕ → List ℕ → ℕ → Thresholds → List ℕ → Delivered) → ReportsGroups call filteredFirst → ⊥

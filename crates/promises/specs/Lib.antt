@@ -9,3 +9,5 @@ pub mod Reviews
 -- the days on which they and the plan are tried
 pub mod D1
 pub mod Ties
+-- what a report by circles is held against
+pub mod Circles

@@ -1,6 +1,6 @@
--- The group statement holds of the records that a report keeps of the list of a day's maximal cores.
-use mathlib.Core.Path.{_≡_, refl, ap}
-use mathlib.Core.Bool.{Bool, true, false}
+-- The group statement as it was before cores were split holds of the maximal cores of a day that meet the thresholds.
+use mathlib.Core.Path.{_≡_, refl}
+use mathlib.Core.Bool.{true}
 use mathlib.Core.List.{List, List·Memᴰ·head, List·Memᴰ·eq-of-singleton}
 use mathlib.Core.Logic.{_↔_}
 use Prim.Native.Nat.{ℕ, suc, _≤_, _<_, suc-le-suc}
@@ -8,12 +8,11 @@ use native.Mathlib.Omega.{arith}
 use lib.Dec.{leb}
 use borrow.Author.Tests.{leb-true, le-leb, ltb-true, lt-ltb}
 use Rattle.sets.specs.Sets.{Sub, full}
-use Rattle.sets.specs.Tables.{keepIf, Pairwise, nothing}
-use Rattle.sets.proofs.Bools.{clash, and-in, and-left, and-right}
+use Rattle.sets.proofs.Bools.{and-in, and-left, and-right}
 use Rattle.sets.proofs.Sets.{sub-pos}
 use Rattle.sets.proofs.Size.{size-mono}
-use Rattle.sets.proofs.Concat.{in-concat, of-concat, keep-nil, in-keep, of-keep}
-use Rattle.sets.proofs.Pairwise.{pairwise-one, pairwise-concat, pairwise-keep, pairwise-two}
+use Rattle.sets.proofs.Concat.{in-concat, of-concat, in-keep, of-keep}
+use Rattle.sets.proofs.Pairwise.{pairwise-two}
 use Rattle.days.specs.Days.{LentDay}
 use Rattle.cores.proofs.Cores.{core-sub, core-cohesive, core-largest}
 use Rattle.spans.specs.Spans.{SpanOfDay}
@@ -23,10 +22,12 @@ use Rattle.spans.specs.Reports.{isMaximal, isGroup, groupsOn, groupsFrom
 use Rattle.thresholds.specs.declared.Thresholds.{Thresholds}
 use Rattle.thresholds.specs.Ranges.{plain}
 use Rattle.spans.specs.KeptGroups.{meets, kept}
-use Rattle.spans.specs.GroupStatement.{Unsurpassed, LargeEnough, Has, GroupStatement}
+use Rattle.spans.specs.GroupStatement.{Unsurpassed}
+use Rattle.spans.specs.CoreStatement.{LargeEnough, Has, CoreStatement}
 use Rattle.spans.proofs.OrderSets.{order-cohesive, cohesive-order, order-many}
 use Rattle.spans.proofs.KeptRecords.{meets-in, meets-of, in-kept, of-kept, kept-pairwise, kept-all}
-use Rattle.spans.proofs.Maximal.{score-on-le, maximal-of, maximal-in, group-of, groups-on}
+use Rattle.spans.proofs.Maximal.{score-on-le, maximal-of, maximal-in, group-of}
+use Rattle.spans.proofs.GroupOrder.{earlier-apart, groups-earlier}
 
 -- What is in the list: exactly the groups of the day's spans, with the members of their cores.
 pub record Shown (n T : ℕ) (ws : List ℕ) (base : ℕ) (c : SpanCore) : Type 0 where
@@ -93,38 +94,6 @@ module _ {n T : ℕ} {ws : List ℕ} {base : ℕ} (lent : LentDay n T ws) (r : S
   unsurpassed-in k first last l m w u = group-whole n T ws base k first last l (order-has (span m w) r k (u .some .0) (u .some .1))
       (maximal-in n T ws base k first last (λ k′ first′ last′ p q a b c h. u .none k′ first′ last′ (coreOn n ws base k′ first′ last′) a b c q (has-order (span p q) r k′ h)))
 
--- no two records of the list have the same span
-abbrev Apart : SpanCore → SpanCore → Type 0
-Apart c d = Has c (d .order) (d .first) (d .last) → ⊥
-
-of-cell : (n T : ℕ) (ws : List ℕ) (base first last : ℕ) (c : SpanCore) → Mem c (keepIf (leb first last) (groupsOn n T ws base first last)) → (c .first ≡ first) × (c .last ≡ last)
-unfolding groupsOn
-of-cell n T ws base first last c i =
-    let k = of-concat (suc n) _ (of-keep (leb first last) _ i .1) in
-    let e = List·Memᴰ·eq-of-singleton (of-keep (isGroup n T ws base (k .0) first last) _ (k .2) .1) in
-    (ap (λ (x : SpanCore). x .first) e, ap (λ (x : SpanCore). x .last) e)
-
-of-line : (n T : ℕ) (ws : List ℕ) (base first : ℕ) (c : SpanCore) → Mem c (groupsFrom n T ws base first) → c .first ≡ first
-unfolding groupsFrom
-of-line n T ws base first c i = let x = of-concat T _ i in of-cell n T ws base first (x .0) c (x .2) .0
-
-cell-apart : (n T : ℕ) (ws : List ℕ) (base first last : ℕ) → last < T → Pairwise Apart (keepIf (leb first last) (groupsOn n T ws base first last))
-cell-apart n T ws base first last w = go (leb first last) refl
-  where
-    go : (b : Bool) → leb first last ≡ b → Pairwise Apart (keepIf b (groupsOn n T ws base first last))
-    go false e = pairwise-keep-none
-      where
-        pairwise-keep-none : Pairwise Apart (keepIf false (groupsOn n T ws base first last))
-        pairwise-keep-none = rw (keep-nil false (groupsOn n T ws base first last) (λ f. clash f refl)) nothing
-    go true e = pairwise-keep true (rw (groups-on n T ws base first last (leb-true _ _ e) w) (pairwise-keep _ (pairwise-one _)))
-
-pub groups-apart : (n T : ℕ) (ws : List ℕ) (base : ℕ) → Pairwise Apart (groupsOf n T ws base)
-unfolding groupsOf groupsFrom
-groups-apart n T ws base = pairwise-concat T (groupsFrom n T ws base)
-    (λ first l. pairwise-concat T _ (λ last w. cell-apart n T ws base first last w)
-    (λ i j a b x y p q h. omega (arith, of-cell n T ws base first i x p .1, of-cell n T ws base first j y q .1, h .its-last)))
-    (λ i j a b x y p q h. omega (arith, of-line n T ws base i x p, of-line n T ws base j y q, h .its-first))
-
 -- what a record of the list shows, order and span unsurpassed and enough for the thresholds, where it meets them; and such a record meets them
 module _ {n T : ℕ} {ws : List ℕ} {base : ℕ} (lent : LentDay n T ws) (r : Sub base (full n)) (least : Thresholds) where
   shown-order : {c : SpanCore} → Shown n T ws base c → OfOrder n ws base (c .order) (c .first) (c .last) (c .members)
@@ -141,8 +110,8 @@ module _ {n T : ℕ} {ws : List ℕ} {base : ℕ} (lent : LentDay n T ws) (r : S
       let s = e .many in
       meets-in least _ (e .long) (e .high) (omega (arith, s .2, size-mono (order-sub (span lent r m w) r k (s .0) (s .1))))
 
--- The group statement.
-pub groups-stated : (n T : ℕ) (ws : List ℕ) (base : ℕ) (least : Thresholds) → LentDay n T ws → Sub base (full n) → GroupStatement n T ws base least (kept least (groupsOf n T ws base))
+-- The statement.
+pub groups-stated : (n T : ℕ) (ws : List ℕ) (base : ℕ) (least : Thresholds) → LentDay n T ws → Sub base (full n) → CoreStatement n T ws base least (kept least (groupsOf n T ws base))
 groups-stated n T ws base least lent r = record {
   order = λ c i. group-parts n T ws base _ _ _ (shown c i .group) .0;
   span = λ c i. (shown c i .rising, shown c i .inside);
@@ -154,7 +123,7 @@ groups-stated n T ws base least lent r = record {
       record { its-order = refl; its-first = refl; its-last = refl },
     ),
   );
-  once = λ xs ys zs c d e. pairwise-two xs ys zs c d (rw e at (kept-pairwise least _ (groups-apart n T ws base)));
+  once = λ xs ys zs c d e h. earlier-apart (pairwise-two xs ys zs c d (rw e at (kept-pairwise least _ (groups-earlier n T ws base)))) (h .its-first) (h .its-last);
   members = λ c i. shown-order lent r least (shown c i);
   largest = λ c t i o. let s = shown c i in rw (s .members) (order-sub (span lent r (s .rising) (s .inside)) r (c .order) t o);
 }
@@ -169,8 +138,11 @@ kept-plain {n} {T} {ws} {base} lent r = kept-all plain (groupsOf n T ws base) (�
     let p = group-parts n T ws base _ _ _ (s .group) in
     meets-in plain c (omega (arith, s .rising)) (p .0) (omega (arith, p .0, order-many (shown-order lent r plain s))))
 
+pub cores-stated : {n T : ℕ} {ws : List ℕ} {base : ℕ} → LentDay n T ws → Sub base (full n) → CoreStatement n T ws base plain (groupsOf n T ws base)
+cores-stated {n} {T} {ws} {base} lent r = rw (kept-plain lent r) at (groups-stated n T ws base plain lent r)
+
 -- So with 1, 1 and 2 the statement is demand 3's own: a record is there exactly when its order and span are unsurpassed.
-pub plain-exactly : {n T : ℕ} {ws : List ℕ} {base : ℕ} {groups : List SpanCore} → GroupStatement n T ws base plain groups
+pub plain-exactly : {n T : ℕ} {ws : List ℕ} {base : ℕ} {groups : List SpanCore} → CoreStatement n T ws base plain groups
     → (k first last : ℕ) → 1 ≤ k → first ≤ last → last < T → ((c : SpanCore) × Mem c groups × Has c k first last) ↔ Unsurpassed n T ws base k first last
 plain-exactly s k first last l m w =
     let e = s .exactly k first last l m w in (

@@ -19,8 +19,7 @@ use Rattle.thresholds.specs.declared.Thresholds.{Thresholds}
 use Rattle.thresholds.specs.Ranges.{inRange}
 use Rattle.spans.specs.Spans.{isSpan}
 use Rattle.spans.specs.Reviews.{isReview, Review}
-use Rattle.spans.specs.Reports.{groupsOf}
-use Rattle.spans.specs.KeptGroups.{kept}
+use Rattle.spans.specs.CircleRecords.{shownRecords}
 use Rattle.spans.specs.Plans.{partsOf, isQuery, isReviewedQuery, isParts}
 use Rattle.spans.specs.Encoding.{reportBytes, planBytes}
 use Rattle.spans.specs.Judging.{reviewOf, coreNumberBytes, spanJudged, reportJudged, planJudged}
@@ -83,7 +82,7 @@ module _ (n T : ℕ) (ws : List ℕ) (base : ℕ) (least : Thresholds) where
   unfolding reportJudged refuseIf isnt
   judged-range e = rw e
 
-  pub judged-report : inRange least ≡ true → reportJudged n T ws base least ≡ success (reportBytes n T (kept least (groupsOf n T ws base)))
+  pub judged-report : inRange least ≡ true → reportJudged n T ws base least ≡ success (reportBytes n T (shownRecords n T ws base least))
   unfolding reportJudged refuseIf isnt
   judged-report e = rw e
 

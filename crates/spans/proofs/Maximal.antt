@@ -99,11 +99,11 @@ large-of : (k first last k′ first′ last′ : ℕ) → asLarge k first last k
 unfolding asLarge
 large-of k first last k′ first′ last′ e = (leb-true _ _ (and-left _ _ (and-left _ _ e)), leb-true _ _ (and-right _ _ (and-left _ _ e)), leb-true _ _ (and-right _ _ e))
 
-same-in : (k first last : ℕ) → same k first last k first last ≡ true
+pub same-in : (k first last : ℕ) → same k first last k first last ≡ true
 unfolding same
 same-in k first last = and-in _ _ (and-in _ _ (eq-eqb k k refl) (eq-eqb first first refl)) (eq-eqb last last refl)
 
-same-of : (k first last k′ first′ last′ : ℕ) → same k first last k′ first′ last′ ≡ true → (k′ ≡ k) × (first′ ≡ first) × (last′ ≡ last)
+pub same-of : (k first last k′ first′ last′ : ℕ) → same k first last k′ first′ last′ ≡ true → (k′ ≡ k) × (first′ ≡ first) × (last′ ≡ last)
 unfolding same
 same-of k first last k′ first′ last′ e = (eqb-true _ _ (and-left _ _ (and-left _ _ e)), eqb-true _ _ (and-right _ _ (and-left _ _ e)), eqb-true _ _ (and-right _ _ e))
 

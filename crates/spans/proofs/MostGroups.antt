@@ -1,4 +1,4 @@
--- The lengths of reports and plans. A day has at most T(T+1)/2 groups, one for each span: at most 4,656, so that 60,538 bytes hold any report.
+-- The lengths of reports and plans. A day has at most T(T+1)/2 maximal cores, one for each span: at most 4,656.
 use mathlib.Core.Path.{_≡_, refl}
 use mathlib.Core.Bool.{Bool, true, false}
 use mathlib.Core.List.{List, [], _∷_, _++_}
@@ -19,15 +19,15 @@ use Rattle.records.specs.Records.{encode}
 use Rattle.records.proofs.Records.{length-encode}
 use Rattle.spans.specs.SpanCores.{SpanCore}
 use Rattle.spans.specs.Reports.{groupsOn, groupsFrom, groupsOf}
-use Rattle.spans.specs.Encoding.{spanCount, maxGroups, maxReportBytes, encodeCores, reportBytes, planBytes}
+use Rattle.spans.specs.Encoding.{spanCount, maxCores, encodeCores, reportBytes, planBytes}
 use Rattle.spans.proofs.Maximal.{groups-on}
 use Rattle.spans.proofs.Encoding.{encode-cores-length}
 
--- a report has 10 bytes and 13 for each group
-pub report-length : (n T : ℕ) (groups : List SpanCore) → length (reportBytes n T groups) ≡ 10 + 13 * length groups
+-- a report has 10 bytes and 13 for each record
+pub report-length : (n T : ℕ) (records : List SpanCore) → length (reportBytes n T records) ≡ 10 + 13 * length records
 unfolding reportBytes
-report-length n T groups =
-    omega (arith, length-append (encodeCores (ascii "GR") groups) (encode (End (length groups))), encode-cores-length (ascii "GR") refl groups, length-encode (End (length groups)))
+report-length n T records =
+    omega (arith, length-append (encodeCores (ascii "GR") records) (encode (End (length records))), encode-cores-length (ascii "GR") refl records, length-encode (End (length records)))
 
 -- a plan has 19 bytes and 13 for each part
 pub plan-length : (n T h query : ℕ) (parts : List SpanCore) → length parts ≡ h → length (planBytes n T h query parts) ≡ 19 + 13 * h
@@ -42,7 +42,7 @@ plan-length n T h query parts e = omega (
 )
 
 -- no day has more spans than one of 96 ticks
-pub spans-few : {T : ℕ} → T ≤ maxTicks → spanCount T ≤ maxGroups
+pub spans-few : {T : ℕ} → T ≤ maxTicks → spanCount T ≤ maxCores
 unfolding spanCount
 spans-few {T} s = let k : suc T ≤ suc maxTicks = omega arith in omega (arith, mul-le-mul s k)
 
@@ -75,9 +75,6 @@ module _ (n T : ℕ) (ws : List ℕ) (base : ℕ) where
       double-le zero = omega arith
       double-le (suc d) = let l : 2 ≤ suc (suc d) = omega arith in mul-le-mul-left (suc d) l
 
-  pub groups-few : T ≤ maxTicks → length (groupsOf n T ws base) ≤ maxGroups
+  pub groups-few : T ≤ maxTicks → length (groupsOf n T ws base) ≤ maxCores
   unfolding groupsOf
   groups-few s = omega (arith, groups-before T (le-refl T), spans-few s)
-
-  pub report-most : T ≤ maxTicks → length (reportBytes n T (groupsOf n T ws base)) ≤ maxReportBytes
-  report-most s = omega (arith, report-length n T (groupsOf n T ws base), groups-few s)

@@ -17,7 +17,7 @@ use Rattle.spans.proofs.SpanRows.{throughout-of, throughout-in, in-span
 
 module _ {n T : ℕ} {ws : List ℕ} {first last : ℕ} (d : SpanOfDay n T ws first last) (s : ℕ) (w : Sub s (full n)) where
   -- no badge is its own neighbour on a span
-  apart : (u : ℕ) → u < n → In (spanNeighbours n ws first last u) u → ⊥
+  pub apart : (u : ℕ) → u < n → In (spanNeighbours n ws first last u) u → ⊥
   apart u l i = d .lent .day .tick first (omega (arith, d .rising, d .inside)) .irreflexive u l (of-span n ws first last u u i .1 first (le-refl first) (d .rising))
 
   -- the fellow members of a badge are its neighbours in the set,

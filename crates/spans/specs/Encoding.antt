@@ -8,19 +8,29 @@ use Rattle.records.specs.declared.record.Record.the-variants.{End}
 use Rattle.records.specs.Records.{encode}
 use Rattle.spans.specs.SpanCores.{SpanCore}
 
--- the spans of T ticks: a day has at most one group on each; and the bytes of a report with as many
+-- the spans of T ticks, and of 96: a day has at most one maximal core on each
 unfoldable pub spanCount : ℕ → ℕ
 spanCount T = T * suc T / 2
 
-abbrev pub mostBytes : ℕ → ℕ
-mostBytes T = 10 + 13 * spanCount T
+abbrev pub maxCores : ℕ
+maxCores = 4656
 
--- the most groups of any day, one for each span of 96 ticks, and the bytes of its report
-abbrev pub maxGroups : ℕ
-maxGroups = 4656
+-- A circle of order k has k + 1 members or more. So many circles n badges have at most in cores of the orders 1 to m, one of each order: the sum of
+-- n / (k + 1).
+unfoldable pub circlesUpTo : ℕ → ℕ → ℕ
+circlesUpTo n zero = 0
+circlesUpTo n (suc m) = circlesUpTo n m + n / suc (suc m)
+
+-- Of each order a day has at most T maximal cores, since their spans contain none of one another. So many records a report has at most, of a day of n
+-- badges and T ticks and of any day, and so many bytes.
+abbrev pub mostRecords : ℕ → ℕ → ℕ
+mostRecords n T = T * circlesUpTo n n
+
+abbrev pub maxRecords : ℕ
+maxRecords = 20736
 
 abbrev pub maxReportBytes : ℕ
-maxReportBytes = 60538
+maxReportBytes = 269578
 
 -- a record: its mark of two letters, "order, first tick, last tick, members as an 8-byte set with bit u for badge u"
 unfoldable pub encodeCore : List ℕ → SpanCore → List ℕ

@@ -10,8 +10,7 @@ use Rattle.thresholds.specs.declared.Thresholds.{Thresholds}
 use Rattle.thresholds.specs.Ranges.{inRange}
 use Rattle.spans.specs.Spans.{isSpan, spanNeighbours}
 use Rattle.spans.specs.Reviews.{isReview}
-use Rattle.spans.specs.Reports.{groupsOf}
-use Rattle.spans.specs.KeptGroups.{kept}
+use Rattle.spans.specs.CircleRecords.{shownRecords}
 use Rattle.spans.specs.Plans.{partsOf, isQuery, isReviewedQuery, isParts}
 use Rattle.spans.specs.Encoding.{reportBytes, planBytes}
 
@@ -29,10 +28,10 @@ coreNumberBytes n ws base first last = tabulate n (coreNumber (spanNeighbours n 
 unfoldable pub spanJudged : ℕ → ℕ → List ℕ → ℕ → ℕ → ℕ → Outcome (List ℕ)
 spanJudged n T ws base first last = refuseIf (isnt (isSpan T first last)) 12 0 (success (coreNumberBytes n ws base first last))
 
--- The thresholds are judged, and then the bytes are worked out, of the groups that meet them. "17, a threshold outside its range, after 11 and
+-- The thresholds are judged, and then the bytes are worked out, of the records that meet them. "17, a threshold outside its range, after 11 and
 -- before 9." Which cores are maximal is judged over all cores of reviewed badges: "domination is judged before the filter".
 unfoldable pub reportJudged : ℕ → ℕ → List ℕ → ℕ → Thresholds → Outcome (List ℕ)
-reportJudged n T ws base least = refuseIf (isnt (inRange least)) 17 0 (success (reportBytes n T (kept least (groupsOf n T ws base))))
+reportJudged n T ws base least = refuseIf (isnt (inRange least)) 17 0 (success (reportBytes n T (shownRecords n T ws base least)))
 
 -- The query and the number of parts are judged, and then the bytes are worked out. "13: the query has a badge of n or more. 14: h is 0 or above T."
 -- "21, the query has a badge outside it, between 13 and 14."

@@ -7,8 +7,11 @@ pub mod SpanCores
 pub mod LongerSpans
 pub mod Reports
 pub mod KeptGroups
+pub mod CircleRecords
+pub mod Grouping
 pub mod Plans
 pub mod Encoding
 pub mod Judging
 pub mod GroupStatement
+pub mod CoreStatement
 pub mod PlanStatement

@@ -1,10 +1,17 @@
--- What prepare leaves shows the lines of the log's listing, lent 6,144 words and 60,538 bytes or more.
+-- What prepare leaves, lent 6,144 words or more: the report of the log's day where the buffer holds it, and refusal 9 where it does not. In a buffer
+-- of 65,536 bytes it shows the lines of the log's listing.
 use mathlib.Core.Path.{_≡_, refl, sym, ap, _∙_}
-use mathlib.Core.List.{List, _++_, append-assoc}
+use mathlib.Core.Bool.{true}
+use mathlib.Core.List.{List, [], _∷_, _++_, append-assoc, append-nil}
+use mathlib.Core.Logic.{by-cases}
 use Prim.Native.Nat.{ℕ, _-_, _/_, _^_, _≤_, _<_, min}
+use native.Mathlib.Nat.{le-of-eq}
+use native.Mathlib.Decide.{decLt}
 use native.Mathlib.Omega.{arith}
 use lib.ListN.{length, drop}
+use borrow.Author.Tests.{lt-ltb, le-ltb}
 use Rattle.sets.specs.Ascii.{ascii}
+use Rattle.sets.specs.Bools.{_and_}
 use Rattle.sets.specs.Sets.{full}
 use Rattle.sets.specs.Members.{capacity}
 use Rattle.sets.proofs.Sets.{sub-refl}
@@ -16,32 +23,51 @@ use Rattle.records.specs.Outcomes.{Outcome, refused, success}
 use Rattle.records.specs.Judging.{judge}
 use Rattle.records.specs.Meaning.{badgesOf, ticksOf, inContact}
 use Rattle.records.specs.Verdicts.{valuesOf}
-use Rattle.records.proofs.Outcomes.{refused-success, refused-same}
+use Rattle.records.proofs.Outcomes.{refused-success}
 use Rattle.records.proofs.Accepting.{accepted-of}
 use Rattle.records.proofs.WithinLimits.{limits-of, words-most}
-use Rattle.days.specs.Days.{dayOf}
+use Rattle.days.specs.Days.{dayOf, LentDay}
 use Rattle.days.specs.Calls.{Read}
-use Rattle.days.proofs.Days.{day-length, neighbours-append}
+use Rattle.days.proofs.Days.{day-length}
 use Rattle.days.proofs.ReadCall.{read-refused, read-success}
 use Rattle.log.specs.Buffers.{Delivered}
-use Rattle.log.proofs.Delivering.{deliver-passed, deliver-fits}
+use Rattle.thresholds.specs.Ranges.{plain, inRange}
 use Rattle.spans.specs.SpanCores.{SpanCore, Mem}
-use Rattle.spans.specs.Reports.{groupsOf}
-use Rattle.spans.specs.Encoding.{maxReportBytes, encodeCores, reportBytes}
+use Rattle.spans.specs.Encoding.{encodeCores, reportBytes}
+use Rattle.spans.proofs.CircleStated.{report-stated}
+use Rattle.spans.proofs.StatedRecords.{records-small}
 use Rattle.spans.proofs.Decoding.{decode-cores}
-use Rattle.spans.proofs.GroupLists.{of-groups}
-use Rattle.spans.proofs.MostGroups.{report-length, report-most}
-use Rattle.spans.proofs.Judging.{all-review}
-use Rattle.groups.proofs.ReportTheorems.{core-small, report-plain}
-use Rattle.promises.proofs.ReadTheorems.{accepted-passes}
-use Rattle.promises.proofs.SameCores.{groups-same}
-use Rattle.promises.proofs.WordsAfter.{same-spans}
-use Rattle.text.specs.Listing.{reportLines, judgedLines}
+use Rattle.spans.proofs.MostGroups.{report-length}
+use Rattle.spans.proofs.Reviews.{all-reviewed}
+use Rattle.groups.specs.Calls.{reportOf}
+use Rattle.groups.proofs.ReportTheorems.{report-succeeds, report-measures}
+use Rattle.promises.proofs.ReadTheorems.{accepted-day}
+use Rattle.promises.proofs.WordsAfter.{report-rest}
+use Rattle.text.specs.Listing.{refusalLine, reportLines, listingRoom, listedLines, listedGroups, judgedLines}
 use Rattle.text.specs.Calls.{Prepared, prepareOf, shownLines}
 use Rattle.text.proofs.PrepareCall.{prepare-refused, prepare-read}
 
+-- a refusal is known by its parts
+pub refused-parts : {k o number offset : ℕ} → _≡_ {A = Outcome ℕ} (refused k o) (refused number offset) → (k ≡ number) × (o ≡ offset)
+refused-parts e = (cc, cc)
+
+-- the thresholds of the plain report are within their ranges
+plain-range : inRange plain ≡ true
+unfolding inRange _and_
+plain-range = refl
+
+-- a report above the room, and one for which there is room
+module _ (n T : ℕ) (groups : List SpanCore) where
+  pub listed-long : listingRoom < length (reportBytes n T groups) → listedLines n T groups ≡ refusalLine 9 0 ∷ []
+  unfolding listedLines
+  listed-long h = rw (listedLines, lt-ltb listingRoom (length (reportBytes n T groups)) h)
+
+  pub listed-fits : length (reportBytes n T groups) ≤ listingRoom → listedLines n T groups ≡ reportLines n T groups
+  unfolding listedLines
+  listed-fits h = rw (listedLines, le-ltb listingRoom (length (reportBytes n T groups)) h)
+
 -- the lines that a report's bytes show, whatever follows them
-pub report-shown : (n T : ℕ) (groups : List SpanCore) (rest : List ℕ) → ((c : SpanCore) → Mem c groups → c .members < 2 ^ 64)
+report-shown : (n T : ℕ) (groups : List SpanCore) (rest : List ℕ) → ((c : SpanCore) → Mem c groups → c .members < 2 ^ 64)
     → shownLines (success (length (reportBytes n T groups))) (reportBytes n T groups ++ rest) ≡ reportLines n T groups
 unfolding shownLines reportBytes
 report-shown n T groups rest h =
@@ -49,7 +75,7 @@ report-shown n T groups rest h =
     let said = decode-cores (ascii "GR") refl groups (encode (End (length groups)) ++ rest) h in
     rw (count, append-assoc (encodeCores (ascii "GR") groups) (encode (End (length groups))) rest, said)
 
--- the words of an accepted log pass the check, with any words after them, which make no difference to the groups
+-- an accepted log, its day and its report
 module _ (log : List ℕ) (rs : List Record) (e : judge log ≡ success rs) where
   abbrev n : ℕ
   n = badgesOf rs
@@ -57,51 +83,63 @@ module _ (log : List ℕ) (rs : List Record) (e : judge log ≡ success rs) wher
   abbrev T : ℕ
   T = ticksOf rs
 
-  accepted-groups : (rest : List ℕ) → groupsOf n T (dayOf rs ++ rest) (full n) ≡ groupsOf n T (dayOf rs) (full n)
-  unfolding dayOf
-  accepted-groups rest = groups-same (same-spans {n = n} {T = T} {xs = dayOf rs ++ rest} {ys = dayOf rs} (λ t u h k. neighbours-append n T (dayOf rs) rest t u (day-length n T (inContact rs)) h k) (sub-refl (full n)))
+  abbrev bytes : List ℕ
+  bytes = reportBytes n T (listedGroups rs)
 
-  module _ (words report : List ℕ) (h : maxWords ≤ length words) (k : maxReportBytes ≤ length report) where
-    abbrev rest : List ℕ
-    rest = drop (wordsFor n T) words
+  pub accepted-lent : LentDay n T (dayOf rs)
+  unfolding judge dayOf
+  accepted-lent = record { limits = accepted-of 0 log rs e .limits; enough = le-of-eq (sym (day-length n T (inContact rs))); day = accepted-day log rs e }
 
-    abbrev bytes : List ℕ
-    bytes = reportBytes n T (groupsOf n T (dayOf rs ++ rest) (full n))
+  module _ (words report : List ℕ) (h : maxWords ≤ length words) where
+    abbrev left : List ℕ
+    left = dayOf rs ++ drop (wordsFor n T) words
 
-    -- the report is made
-    pub accepted-made : prepareOf log words report ≡ record { answer = success (length bytes); words = dayOf rs ++ rest; report = bytes ++ drop (length bytes) report }
-    unfolding judge valuesOf
-    accepted-made =
-        let limits = limits-of (accepted-of 0 log rs e .limits) in
+    -- the day is reported, since words after it make no difference
+    accepted-reported : (d : Delivered) → reportOf n T (dayOf rs) (full n) plain report ≡ d → prepareOf log words report ≡ record { answer = d .answer; words = left; report = d .buffer }
+    unfolding valuesOf dayOf
+    accepted-reported d f =
+        let limits = limits-of (accepted-lent .limits) in
         let m : n ≡ min n capacity = omega (arith, limits .few) in
         let read = read-success log words rs e (omega (arith, words-most n T limits)) in
-        let fits : length bytes ≤ length report = omega (arith, report-most n T (dayOf rs ++ rest) (full n) (limits .short)) in
-        let made = report-plain n T (dayOf rs ++ rest) (full n) report ∙ deliver-passed _ _ report tt (all-review n T (dayOf rs ++ rest) ∙ accepted-passes log rs rest e) ∙ deliver-fits bytes report fits in
-        prepare-read log words report (valuesOf rs) (ap (λ (x : Read). x .answer) read) (dayOf rs ++ rest) (sym (ap (λ (x : Read). x .words) read)) (ap full m)
-        ∙ ap (λ (x : Delivered). record { answer = x .answer; words = dayOf rs ++ rest; report = x .buffer }) made
+        let same = report-rest n T (dayOf rs) (drop (wordsFor n T) words) [] (full n) (day-length n T (inContact rs)) plain report ∙ ap (λ (ws : List ℕ). reportOf n T ws (full n) plain report) (append-nil (dayOf rs)) in
+        prepare-read log words report (valuesOf rs) (ap (λ (x : Read). x .answer) read) left (sym (ap (λ (x : Read). x .words) read)) (ap full m)
+        ∙ ap (λ (x : Delivered). record { answer = x .answer; words = left; report = x .buffer }) (same ∙ f)
 
-    -- and its lines are shown
-    accepted-prepared : shownLines (prepareOf log words report .answer) (prepareOf log words report .report) ≡ reportLines n T (groupsOf n T (dayOf rs) (full n))
-    unfolding judge
-    accepted-prepared =
-        let few = limits-of (accepted-of 0 log rs e .limits) .few in
-        let fits : (c : SpanCore) → Mem c (groupsOf n T (dayOf rs ++ rest) (full n)) → c .members < 2 ^ 64 = λ c m. let s = of-groups n T (dayOf rs ++ rest) (full n) c m in rw (s .members) (core-small n (dayOf rs ++ rest) (full n) (c .order) (c .first) (c .last) few (sub-refl (full n))) in
-        rw (accepted-made, report-shown n T (groupsOf n T (dayOf rs ++ rest) (full n)) (drop (length bytes) report) fits, accepted-groups rest)
+    -- in a buffer that holds the report, and not in a shorter one
+    accepted-made : length bytes ≤ length report → prepareOf log words report ≡ record { answer = success (length bytes); words = left; report = bytes ++ drop (length bytes) report }
+    unfolding listedGroups
+    accepted-made k = accepted-reported _ (report-succeeds n T (dayOf rs) (full n) plain report accepted-lent (all-reviewed accepted-lent) plain-range k)
 
--- What prepare leaves shows the lines of the log.
-pub prepared-lines : (log words report : List ℕ) → maxWords ≤ length words → maxReportBytes ≤ length report
-    → shownLines (prepareOf log words report .answer) (prepareOf log words report .report) ≡ judgedLines (judge log)
-unfolding judgedLines shownLines
-prepared-lines log words report h k = go (judge log) refl
-  where
-    go : (o : Outcome (List Record)) → judge log ≡ o → shownLines (prepareOf log words report .answer) (prepareOf log words report .report) ≡ judgedLines o
-    go (refused number offset) e = rw (prepare-refused log words report number offset (ap (λ (x : Read). x .answer) (read-refused log words number offset e)))
-    go (success rs) e = accepted-prepared log rs e words report h k
+    pub accepted-measured : length report < length bytes → prepareOf log words report ≡ record { answer = refused 9 0; words = left; report = report }
+    unfolding listedGroups
+    accepted-measured k = accepted-reported _ (report-measures n T (dayOf rs) (full n) plain report accepted-lent (all-reviewed accepted-lent) plain-range k)
 
--- A refusal that it answers is the log's own: 8 and 9 do not occur.
-pub prepared-refusal : (log words report : List ℕ) (number offset : ℕ) → maxWords ≤ length words → maxReportBytes ≤ length report → prepareOf log words report .answer ≡ refused number offset → judge log ≡ refused number offset
-prepared-refusal log words report number offset h k f = go (judge log) refl
-  where
-    go : (o : Outcome (List Record)) → judge log ≡ o → judge log ≡ refused number offset
-    go (refused a b) e = e ∙ refused-same (sym (ap (λ (x : Prepared). x .answer) (prepare-refused log words report a b (ap (λ (x : Read). x .answer) (read-refused log words a b e)))) ∙ f)
-    go (success rs) e = absurd (refused-success (sym f ∙ ap (λ (x : Prepared). x .answer) (accepted-made log rs e words report h k)))
+    -- where it was refused, it was by 9, and the buffer was too short
+    pub accepted-refused : (number offset : ℕ) → prepareOf log words report .answer ≡ refused number offset → (number ≡ 9) × (offset ≡ 0) × (length report < length bytes)
+    accepted-refused number offset f = by-cases (decLt (length report) (length bytes))
+        (λ k. let g = refused-parts (answers (accepted-measured k)) in (g .0, g .1, k))
+        (λ k. absurd (refused-success (answers (accepted-made (omega arith)))))
+      where
+        answers : {x : Prepared} → prepareOf log words report ≡ x → refused number offset ≡ x .answer
+        answers g = sym f ∙ ap (λ (y : Prepared). y .answer) g
+
+    -- with the listing's room, the lines are shown
+    accepted-lines : length report ≡ listingRoom → shownLines (prepareOf log words report .answer) (prepareOf log words report .report) ≡ listedLines n T (listedGroups rs)
+    unfolding shownLines listedGroups
+    accepted-lines k = by-cases (decLt (length report) (length bytes))
+        (λ l. rw (accepted-measured l) (sym (listed-long n T (listedGroups rs) (omega arith))))
+        (λ l. rw (accepted-made (omega arith), report-shown n T (listedGroups rs) (drop (length bytes) report) (records-small accepted-lent (sub-refl (full n)) (report-stated accepted-lent (sub-refl (full n))))) (sym (listed-fits n T (listedGroups rs) (omega arith))))
+
+module _ (log words report : List ℕ) where
+  -- a log that is refused is refused alike
+  pub refused-alike : (number offset : ℕ) → judge log ≡ refused number offset → prepareOf log words report .answer ≡ refused number offset
+  refused-alike number offset e = ap (λ (x : Prepared). x .answer) (prepare-refused log words report number offset (ap (λ (x : Read). x .answer) (read-refused log words number offset e)))
+
+  -- In a buffer of 65,536 bytes, what prepare leaves shows the lines of the log.
+  pub prepared-lines : maxWords ≤ length words → length report ≡ listingRoom → shownLines (prepareOf log words report .answer) (prepareOf log words report .report) ≡ judgedLines (judge log)
+  unfolding judgedLines shownLines
+  prepared-lines h k = go (judge log) refl
+    where
+      go : (o : Outcome (List Record)) → judge log ≡ o → shownLines (prepareOf log words report .answer) (prepareOf log words report .report) ≡ judgedLines o
+      go (refused number offset) e = rw (refused-alike number offset e)
+      go (success rs) e = accepted-lines log rs e words report h k

@@ -1,38 +1,42 @@
--- What the listing promises: the pieces that `lines` gives, end to end, are the listing; the first 48,011 bytes of a log decide it; and it
--- shows no refusal by 8 or 9.
+-- What the listing promises: the pieces that `lines` gives, end to end, are the listing; the first 48,011 bytes of a log decide it; and it shows a
+-- refusal by 9 just where the report is too long, and none by 8.
 use mathlib.Core.Path.{_≡_, refl, sym, ap, _∙_, subst}
 use mathlib.Core.List.{List, [], _∷_, _++_, map, append-assoc, List·Memᴰ, List·Memᴰ·head, List·Memᴰ·tail, List·Memᴰ·not-nil, List·Memᴰ·eq-of-singleton, Memᴰ·append-right}
-use mathlib.Core.Logic.{by-cases}
-use Prim.Native.Nat.{ℕ, zero, suc, _+_, _≤_}
-use native.Mathlib.Decide.{decLe}
+use mathlib.Core.Logic.{_↔_, _⊎_, inl, inr, by-cases}
+use Prim.Native.Nat.{ℕ, zero, suc, _+_, _≤_, _<_}
+use native.Mathlib.Decide.{decLe, decLt}
 use native.Mathlib.Omega.{arith}
 use lib.ListN.{length, take, drop, length-take, length-drop, take-append-drop, drop-of-length-le}
 use lib.Seq.{take-append-seam, drop-drop}
-use Rattle.sets.specs.Sets.{full}
+use Rattle.sets.specs.Sets.{Sub, full}
+use Rattle.sets.proofs.Sets.{sub-refl}
 use Rattle.records.specs.declared.record.Record.{Record}
-use Rattle.records.specs.Limits.{maxBadges, maxTicks, maxWords}
+use Rattle.records.specs.Limits.{maxWords}
 use Rattle.records.specs.Outcomes.{Outcome, refused, success}
 use Rattle.records.specs.Judging.{judge}
 use Rattle.records.specs.Meaning.{badgesOf, ticksOf}
 use Rattle.records.proofs.Theorems.{judged-by-first}
-use Rattle.records.proofs.Accepting.{accepted-of}
 use Rattle.records.proofs.Numbers.{judge-number, judge-offset}
+use Rattle.records.proofs.Outcomes.{refused-same}
 use Rattle.records.proofs.WithinLimits.{limits-of}
-use Rattle.days.specs.Days.{dayOf}
+use Rattle.days.specs.Days.{dayOf, LentDay}
+use Rattle.thresholds.specs.declared.Thresholds.{Thresholds}
+use Rattle.thresholds.specs.Ranges.{plain}
 use Rattle.spans.specs.SpanCores.{SpanCore, Mem}
-use Rattle.spans.specs.Reports.{groupsOf}
-use Rattle.spans.specs.Encoding.{maxGroups, maxReportBytes}
-use Rattle.spans.proofs.GroupLists.{of-groups, group-parts}
-use Rattle.spans.proofs.MostGroups.{groups-few}
-use Rattle.spans.proofs.Maximal.{score-has, score-on-le}
-use Rattle.text.specs.Listing.{refusalLine, groupLine, reportLines, judgedLines, joined, listing}
+use Rattle.spans.specs.Encoding.{maxReportBytes, reportBytes}
+use Rattle.spans.specs.GroupStatement.{GroupStatement}
+use Rattle.spans.proofs.CircleStated.{report-stated}
+use Rattle.spans.proofs.StatedRecords.{of-day}
+use Rattle.spans.proofs.MostGroups.{report-length}
+use Rattle.spans.proofs.MostRecords.{report-most}
+use Rattle.text.specs.Listing.{refusalLine, groupLine, reportLines, listingRoom, listedLines, listedGroups, judgedLines, joined, listing}
 use Rattle.text.specs.Pieces.{linesIn, bytesIn, pieceOf, pieces}
-use Rattle.text.specs.Calls.{prepareOf, shownLines}
-use Rattle.text.specs.Making.{lineRoom}
+use Rattle.text.specs.Calls.{Prepared, prepareOf, shownLines, Longer}
+use Rattle.text.specs.Making.{lineRoom, mostLines}
 use Rattle.text.proofs.LinesShown.{lines-length}
 use Rattle.text.proofs.Filling.{lines-more}
 use Rattle.text.proofs.LineLengths.{refusal-short, head-short, group-short}
-use Rattle.text.proofs.Listed.{prepared-lines, prepared-refusal}
+use Rattle.text.proofs.Listed.{refused-parts, listed-long, listed-fits, accepted-lent, accepted-measured, accepted-refused, refused-alike, prepared-lines}
 
 -- The first 48,011 bytes decide.
 pub listed-by-first : (log : List ℕ) → listing (take 48011 log) ≡ listing log
@@ -88,52 +92,82 @@ of-lines [] m = absurd (List·Memᴰ·not-nil m)
 of-lines (c ∷ cs) (List·Memᴰ·head e) = (c, List·Memᴰ·head refl, e)
 of-lines (c ∷ cs) (List·Memᴰ·tail m) = let r = of-lines cs m in (r .0, List·Memᴰ·tail (r .1), r .2)
 
--- No line of a report has more than 320 bytes,
-module _ (n T : ℕ) (ws : List ℕ) (base : ℕ) (few : n ≤ maxBadges) (short : T ≤ maxTicks) where
-  group-line-short : (c : SpanCore) → Mem c (groupsOf n T ws base) → length (groupLine c) ≤ lineRoom
+-- No line of a report for which there is room has more than 320 bytes,
+module _ {n T : ℕ} {ws : List ℕ} {base : ℕ} {least : Thresholds} {groups : List SpanCore} (lent : LentDay n T ws) (within : Sub base (full n)) (stated : GroupStatement n T ws base least groups) (fits : length (reportBytes n T groups) ≤ listingRoom) where
+  few-groups : suc (length groups) ≤ mostLines
+  few-groups = omega (arith, report-length n T groups)
+
+  group-line-short : (c : SpanCore) → Mem c groups → length (groupLine c) ≤ lineRoom
   group-line-short c i =
-      let s = of-groups n T ws base c i in
-      let p = group-parts n T ws base (c .order) (c .first) (c .last) (s .group) in
-      group-short c (omega (arith, score-has n ws base (c .order) (c .first) (c .last) (p .1), score-on-le n ws base 0 (c .first) (c .last))) (omega (arith, s .rising, s .inside)) (omega (arith, s .inside))
+      let limits = limits-of (lent .limits) in
+      let d = of-day within stated c i in
+      group-short c (omega (arith, d .high, limits .few)) (omega (arith, d .rising, d .inside, limits .short)) (omega (arith, d .inside, limits .short))
 
-  report-line-short : (l : List ℕ) → List·Memᴰ l (reportLines n T (groupsOf n T ws base)) → length l ≤ lineRoom
+  report-line-short : (l : List ℕ) → List·Memᴰ l (reportLines n T groups) → length l ≤ lineRoom
   unfolding reportLines
-  report-line-short l (List·Memᴰ·head e) = rw e (head-short n T (length (groupsOf n T ws base)) (omega arith) (omega arith) (omega (arith, groups-few n T ws base short)))
-  report-line-short l (List·Memᴰ·tail m) = let r = of-lines (groupsOf n T ws base) m in rw (r .2) (group-line-short (r .0) (r .1))
+  report-line-short l (List·Memᴰ·head e) = let limits = limits-of (lent .limits) in rw e (head-short n T (length groups) (omega (arith, limits .few)) (omega (arith, limits .short)) (omega (arith, few-groups)))
+  report-line-short l (List·Memᴰ·tail m) = let r = of-lines groups m in rw (r .2) (group-line-short (r .0) (r .1))
 
-  report-lines-few : length (reportLines n T (groupsOf n T ws base)) ≤ suc maxGroups
+  report-lines-few : length (reportLines n T groups) ≤ mostLines
   unfolding reportLines
-  report-lines-few = omega (arith, lines-length (groupsOf n T ws base), groups-few n T ws base short)
+  report-lines-few = omega (arith, lines-length groups, few-groups)
 
--- and none of a log's listing; there are at most 4,657.
+-- and none of a log's listing; there are at most 5,041.
 pub record Short (ls : List (List ℕ)) : Type 0 where
   pub each : (l : List ℕ) → List·Memᴰ l ls → length l ≤ lineRoom
-  pub few : length ls ≤ suc maxGroups
+  pub few : length ls ≤ mostLines
+
+one-short : (number offset : ℕ) → number < 10 → offset < 1000000 → Short (refusalLine number offset ∷ [])
+one-short number offset h k = record { each = λ l m. rw (List·Memᴰ·eq-of-singleton m) (refusal-short number offset h k); few = omega arith }
+
+accepted-short : (rs : List Record) → LentDay (badgesOf rs) (ticksOf rs) (dayOf rs) → Short (listedLines (badgesOf rs) (ticksOf rs) (listedGroups rs))
+unfolding listedGroups
+accepted-short rs lent = by-cases (decLt listingRoom (length (reportBytes (badgesOf rs) (ticksOf rs) (listedGroups rs))))
+    (λ h. rw (listed-long (badgesOf rs) (ticksOf rs) (listedGroups rs) h) (one-short 9 0 (omega arith) (omega arith)))
+    (λ h.
+    let fits : length (reportBytes (badgesOf rs) (ticksOf rs) (listedGroups rs)) ≤ listingRoom = omega arith in
+    let all = sub-refl (full (badgesOf rs)) in
+    let stated = report-stated lent all in
+    rw (listed-fits (badgesOf rs) (ticksOf rs) (listedGroups rs) fits) (record { each = report-line-short lent all stated fits; few = report-lines-few lent all stated fits }))
 
 pub lines-short : (log : List ℕ) → Short (judgedLines (judge log))
-unfolding judgedLines judge
+unfolding judgedLines
 lines-short log = go (judge log) refl
   where
-    one : (number offset : ℕ) → judge log ≡ refused number offset → (l : List ℕ) → List·Memᴰ l (refusalLine number offset ∷ []) → length l ≤ lineRoom
-    one number offset e l m =
-        let f = judged-by-first log ∙ e in
-        rw (List·Memᴰ·eq-of-singleton m) (refusal-short number offset (omega (arith, judge-number log number offset e)) (omega (arith, judge-offset (take 48011 log) number offset f, length-take 48011 log)))
-
     go : (o : Outcome (List Record)) → judge log ≡ o → Short (judgedLines o)
-    go (refused number offset) e = record { each = one number offset e; few = omega arith }
-    go (success rs) e =
-        let limits = limits-of (accepted-of 0 log rs e .limits) in
-        record { each = report-line-short (badgesOf rs) (ticksOf rs) (dayOf rs) (full (badgesOf rs)) (limits .few) (limits .short); few = report-lines-few (badgesOf rs) (ticksOf rs) (dayOf rs) (full (badgesOf rs)) (limits .few) (limits .short) }
+    go (refused number offset) e =
+        let f = judged-by-first log ∙ e in
+        one-short number offset (omega (arith, judge-number log number offset e)) (omega (arith, judge-offset (take 48011 log) number offset f, length-take 48011 log))
+    go (success rs) e = accepted-short rs (accepted-lent log rs e)
 
--- The listing in pieces. Whatever words, 6,144 or more, and whatever buffer of 60,538 bytes or more were lent to prepare: the pieces that lines gives of
--- what it left, in buffers of 320 bytes or more each, 4,657 buffers or more, are the log's listing.
-pub pieces-listing : (log words report : List ℕ) (buffers : List (List ℕ)) → maxWords ≤ length words → maxReportBytes ≤ length report → ((b : List ℕ) → List·Memᴰ b buffers → lineRoom ≤ length b)
-    → suc maxGroups ≤ length buffers → pieces (shownLines (prepareOf log words report .answer) (prepareOf log words report .report)) 0 buffers ≡ listing log
+-- The listing in pieces. Whatever words, 6,144 or more, and whatever buffer of 65,536 bytes were lent to prepare: the pieces that lines gives of what it
+-- left, in buffers of 320 bytes or more each, 5,041 buffers or more, are the log's listing.
+pub pieces-listing : (log words report : List ℕ) (buffers : List (List ℕ)) → maxWords ≤ length words → length report ≡ listingRoom → ((b : List ℕ) → List·Memᴰ b buffers → lineRoom ≤ length b)
+    → mostLines ≤ length buffers → pieces (shownLines (prepareOf log words report .answer) (prepareOf log words report .report)) 0 buffers ≡ listing log
 unfolding listing
 pieces-listing log words report buffers h k r c =
     let s = lines-short log in
     rw (prepared-lines log words report h k) (pieces-whole lineRoom (judgedLines (judge log)) 0 buffers (s .each) r (omega (arith, s .few)))
 
--- The refusal that it shows, if it shows one, is by 1 to 7: never by 8 or 9.
-pub never-8-or-9 : (log words report : List ℕ) (number offset : ℕ) → maxWords ≤ length words → maxReportBytes ≤ length report → prepareOf log words report .answer ≡ refused number offset → number ≤ 7
-never-8-or-9 log words report number offset h k e = judge-number log number offset (prepared-refusal log words report number offset h k e)
+-- Lent 6,144 words or more and any buffer, of 65,536 bytes as the listing's or of another length:
+module _ (log words report : List ℕ) (h : maxWords ≤ length words) where
+  -- prepare is refused by 9 exactly when the log is accepted and the buffer is shorter than its report,
+  pub refused-by-9 : (prepareOf log words report .answer ≡ refused 9 0) ↔ Longer log (length report)
+  refused-by-9 = (λ f. go f (judge log) refl, λ l. ap (λ (x : Prepared). x .answer) (accepted-measured log (l .records) (l .accepted) words report h (l .bytes)))
+    where
+      go : prepareOf log words report .answer ≡ refused 9 0 → (o : Outcome (List Record)) → judge log ≡ o → Longer log (length report)
+      go f (refused number offset) e = let g = refused-parts (sym (refused-alike log words report number offset e) ∙ f) in absurd (omega (arith, g .0, judge-number log number offset e))
+      go f (success rs) e = record { records = rs; accepted = e; bytes = accepted-refused log rs e words report h 9 0 f .2 }
+
+  -- which 269,578 bytes never are,
+  pub never-shorter : maxReportBytes ≤ length report → Longer log (length report) → ⊥
+  unfolding listedGroups
+  never-shorter k l = omega (arith, l .bytes, report-most (accepted-lent log (l .records) (l .accepted)) (sub-refl (full (badgesOf (l .records)))) plain)
+
+  -- and every other refusal is the log's own, by 1 to 7: never by 8.
+  pub refused-else : (number offset : ℕ) → prepareOf log words report .answer ≡ refused number offset → ((number ≡ 9) × (offset ≡ 0)) ⊎ ((number ≤ 7) × (judge log ≡ refused number offset))
+  refused-else number offset f = go (judge log) refl
+    where
+      go : (o : Outcome (List Record)) → judge log ≡ o → ((number ≡ 9) × (offset ≡ 0)) ⊎ ((number ≤ 7) × (judge log ≡ refused number offset))
+      go (refused a b) e = let g = e ∙ refused-same (sym (refused-alike log words report a b e) ∙ f) in inr (judge-number log number offset g, g)
+      go (success rs) e = let g = accepted-refused log rs e words report h number offset f in inl (g .0, g .1)

@@ -1,16 +1,20 @@
 -- What the public functions answer and leave in the slices that were lent.
 use mathlib.Core.List.{List, [], _∷_}
-use Prim.Native.Nat.{ℕ, _-_, _/_}
-use lib.ListN.{getD, drop}
+use mathlib.Core.Path.{_≡_}
+use Prim.Native.Nat.{ℕ, _-_, _/_, _<_}
+use lib.ListN.{length, getD, drop}
 use Rattle.sets.specs.Sets.{full}
+use Rattle.records.specs.declared.record.Record.{Record}
 use Rattle.records.specs.Outcomes.{Outcome, refused, success}
+use Rattle.records.specs.Judging.{judge}
+use Rattle.records.specs.Meaning.{badgesOf, ticksOf}
 use Rattle.records.specs.Verdicts.{Values}
 use Rattle.days.specs.Calls.{readOf}
 use Rattle.log.specs.Buffers.{Delivered}
 use Rattle.thresholds.specs.Ranges.{plain}
-use Rattle.spans.specs.Encoding.{decodeCores}
+use Rattle.spans.specs.Encoding.{reportBytes, decodeCores}
 use Rattle.groups.specs.Calls.{reportOf}
-use Rattle.text.specs.Listing.{refusalLine, reportLines}
+use Rattle.text.specs.Listing.{refusalLine, reportLines, listedGroups}
 
 -- prepare: read the log into the words, and put the plain report of its day, with all n badges under review, into the buffer
 pub record Prepared : Type 0 where
@@ -34,3 +38,9 @@ prepareOf log words report = record {
 unfoldable pub shownLines : Outcome ℕ → List ℕ → List (List ℕ)
 shownLines (refused number offset) report = refusalLine number offset ∷ []
 shownLines (success size) report = reportLines (getD report 2 0) (getD report 3 0) (decodeCores ((size - 10) / 13) (drop 4 report))
+
+-- When prepare is refused by 9: the log is accepted, and its report has more bytes than there is room for.
+pub record Longer (log : List ℕ) (room : ℕ) : Type 0 where
+  pub records : List Record
+  pub accepted : judge log ≡ success records
+  pub bytes : room < length (reportBytes (badgesOf records) (ticksOf records) (listedGroups records))

@@ -1,7 +1,9 @@
 -- The listing of a log, line by line: "First line: n, T, number of groups. Then per group its order, first and last tick, members rising. A
 -- refusal prints `refused N at OFFSET`." Every line ends with a newline.
+use mathlib.Core.Bool.{true, false}
 use mathlib.Core.List.{List, [], _∷_, _++_, map}
 use Prim.Native.Nat.{ℕ}
+use lib.Dec.{ltb}
 use lib.ListN.{length}
 use Rattle.sets.specs.Ascii.{ascii}
 use Rattle.sets.specs.Sets.{has, full}
@@ -12,8 +14,10 @@ use Rattle.records.specs.Outcomes.{Outcome, refused, success}
 use Rattle.records.specs.Judging.{judge}
 use Rattle.records.specs.Meaning.{badgesOf, ticksOf}
 use Rattle.days.specs.Days.{dayOf}
+use Rattle.thresholds.specs.Ranges.{plain}
 use Rattle.spans.specs.SpanCores.{SpanCore}
-use Rattle.spans.specs.Reports.{groupsOf}
+use Rattle.spans.specs.CircleRecords.{shownRecords}
+use Rattle.spans.specs.Encoding.{reportBytes}
 use Rattle.text.specs.Decimal.{decimal}
 
 abbrev pub newline : List ℕ
@@ -40,10 +44,23 @@ refusalLine number offset = field (ascii "refused ") number ++ (field (ascii " a
 unfoldable pub reportLines : ℕ → ℕ → List SpanCore → List (List ℕ)
 reportLines n T groups = headLine n T (length groups) ∷ map groupLine groups
 
--- the lines of a log, by what judging it comes to: the groups are those of all n badges
+-- The listing program has room for a report of so many bytes: "9 applies as ever, and the listing program, which counts and prints each circle as a
+-- group, prints it for a report above 65,536 bytes."
+abbrev pub listingRoom : ℕ
+listingRoom = 65536
+
+-- the lines of a report for which there is room, and the one line of refusal 9 for a longer one
+unfoldable pub listedLines : ℕ → ℕ → List SpanCore → List (List ℕ)
+listedLines n T groups = elim (ltb listingRoom (length (reportBytes n T groups))) [ true ↦ refusalLine 9 0 ∷ [] | false ↦ reportLines n T groups ]
+
+-- the groups of a log's listing: each circle is one, and all n badges are under review
+unfoldable pub listedGroups : List Record → List SpanCore
+listedGroups rs = shownRecords (badgesOf rs) (ticksOf rs) (dayOf rs) (full (badgesOf rs)) plain
+
+-- the lines of a log, by what judging it comes to
 unfoldable pub judgedLines : Outcome (List Record) → List (List ℕ)
 judgedLines (refused number offset) = refusalLine number offset ∷ []
-judgedLines (success rs) = reportLines (badgesOf rs) (ticksOf rs) (groupsOf (badgesOf rs) (ticksOf rs) (dayOf rs) (full (badgesOf rs)))
+judgedLines (success rs) = listedLines (badgesOf rs) (ticksOf rs) (listedGroups rs)
 
 -- lines end to end, and the listing of a log: its text in bytes
 unfoldable pub joined : List (List ℕ) → List ℕ

@@ -13,6 +13,10 @@ lineRoom = 320
 abbrev pub digitRoom : ℕ
 digitRoom = 20
 
+-- the most lines of a listing: the first, and one for each of 5,040 records of 13 bytes, since 65,536 bytes hold no more of them and 10 others
+abbrev pub mostLines : ℕ
+mostLines = 5041
+
 -- the digits of n at the end of a list, from a place on
 pub record Spells (n start : ℕ) (digits : List ℕ) : Type 0 where
   pub size : length digits ≡ digitRoom

@@ -10,9 +10,9 @@ use log::Verdict;
 use log::read;
 use sets::BadgeSet;
 
-// Reads a log into the words that are lent, and puts the plain report of its day's groups, with all badges under review, into the buffer that is lent. Answers the number of the
-// report's bytes. Refused by what read and report refuse by, and then the buffer is as it was. 6,144 words and 60,538 bytes are enough for
-// every log.
+// Reads a log into the words that are lent, and puts the plain report of its day's groups, with all badges under review, into the buffer that is lent.
+// Answers the number of the report's bytes. Refused by what read and report refuse by, and then the buffer is as it was. 6,144 words and 269,578 bytes
+// are enough for every log; the listing program lends 65,536 bytes, and shows refusal 9 for a longer report.
 pub fn prepare(log: &[u8], words: &mut [u64], buffer: &mut [u8]) -> Written
     ensures answer { λ r. ⌜ writtenOutcome r ≡ prepareOf (now (log .entry)) (now (words .entry)) (now (buffer .entry)) .answer ⌝ }
     ensures words { λ _. ⌜ now (words .exit) ≡ prepareOf (now (log .entry)) (now (words .entry)) (now (buffer .entry)) .words ⌝ }

@@ -25,8 +25,8 @@ pub const WORDS: usize = 6144;
 pub const JOIN_WORK_WORDS: usize = 4 * WORDS;
 /// Bytes that hold any log, tidy or not.
 pub const LOG_BYTES: usize = 48010;
-/// Bytes that hold any report.
-pub const REPORT_BYTES: usize = 60538;
+/// Bytes that hold any report: `report_bytes` of 64 badges and 96 ticks. Most reports are much shorter.
+pub const REPORT_BYTES: usize = 269578;
 /// Bytes that hold any plan.
 pub const PLAN_BYTES: usize = 1267;
 /// Bytes that hold the core numbers of any span.
@@ -47,8 +47,8 @@ pub struct Joined {
     pub ticks: usize,
 }
 
-/// What a group needs for a report to keep it: so many ticks or more, 1 to 96; an order of so much or more, 1 to 63; so many members or more, 2 to 64.
-/// The ranges are the same for every day. By default a report keeps every group.
+/// What a group needs for a report to keep it: so many ticks or more, 1 to 96; an order of so much or more, 1 to 63; so many members or more, 2 to 64,
+/// counted in each group and not in the core that it is of. The ranges are the same for every day. By default a report keeps every group.
 ///
 /// ```
 /// assert_eq!(ward::Thresholds::default(), ward::Thresholds { ticks: 1, order: 1, members: 2 });
@@ -75,6 +75,36 @@ impl Default for Thresholds {
 /// ```
 pub const fn all_badges(badges: usize) -> u64 {
     if badges < 64 { (1 << badges) - 1 } else { u64::MAX }
+}
+
+/// Room for any report of a day of this size: 10 bytes, and 13 for each of as many records as it may have. Of each order k a report shows at most as
+/// many cores as the day has ticks, since none of their spans contains another, and their circles have k + 1 members or more. More than 64 badges
+/// count as 64, and more than 96 ticks as 96.
+///
+/// ```
+/// assert_eq!(ward::report_bytes(5, 3), 10 + 13 * 3 * (5 / 2 + 5 / 3 + 5 / 4 + 5 / 5));
+/// assert_eq!(ward::report_bytes(64, 96), ward::REPORT_BYTES);
+/// assert_eq!(ward::report_bytes(usize::MAX, usize::MAX), ward::REPORT_BYTES);
+///
+/// // hardly any report is so long: lend what is at hand, and so much only where that is refused
+/// let words = [0b10, 0b01, 0, 0, 0b10, 0b01]; // two badges in contact in the first and in the third of three ticks
+/// let ask = |report: &mut [u8]| ward::report(&words, 2, 3, ward::all_badges(2), ward::Thresholds::default(), report);
+/// let mut report = vec![0; 30];
+/// let mut answer = ask(&mut report);
+/// if answer.is_err_and(|refused| refused.refusal == ward::Refusal::BufferTooShort) {
+///     report.resize(ward::report_bytes(2, 3), 0);
+///     answer = ask(&mut report);
+/// }
+/// assert_eq!((answer, report.len()), (Ok(36), 49));
+/// ```
+pub const fn report_bytes(badges: usize, ticks: usize) -> usize {
+    let (badges, ticks) = (if badges < 64 { badges } else { 64 }, if ticks < 96 { ticks } else { 96 });
+    let (mut circles, mut members) = (0, 2);
+    while members <= badges {
+        circles += badges / members;
+        members += 1;
+    }
+    10 + 13 * ticks * circles
 }
 
 type Answer = [u64; 5];
@@ -249,8 +279,27 @@ pub fn core_numbers(words: &[u64], badges: usize, ticks: usize, review: u64, fir
     written(answer)
 }
 
-/// Puts the report of a day's groups into a buffer, of those that meet the thresholds, and gives the number of bytes. The groups are the maximal cores
-/// among the badges under review, a set with bit u for badge u, and which are maximal is judged among these cores alone.
+/// Puts the report of a day's groups into a buffer, of those that meet the thresholds, and gives the number of bytes. The groups are the circles of
+/// the maximal cores: the members of each such core split by who is joined to whom through chains of pairs of members that stay in contact throughout
+/// its span. Each has a record with the order and the span of its core; they are ordered by first tick, last tick and smallest member. The cores are
+/// those among the badges under review, a set with bit u for badge u, and which are maximal is judged among these cores alone, before they are split.
+/// [`REPORT_BYTES`] are enough for any report, and [`report_bytes`] says how many are for a smaller day.
+///
+/// ```
+/// // two teams of three, each together all day, that never met: one core of order 2, two groups
+/// let words = [0b000110, 0b000101, 0b000011, 0b110000, 0b101000, 0b011000].repeat(4);
+/// let (everyone, mut report) = (ward::all_badges(6), [0u8; ward::report_bytes(6, 4)]);
+/// let size = ward::report(&words, 6, 4, everyone, ward::Thresholds::default(), &mut report)?;
+/// assert_eq!(&report[4..17], b"GR\x02\x00\x03\x07\x00\x00\x00\x00\x00\x00\x00"); // order 2, ticks 0 to 3, badges 0, 1 and 2
+/// assert_eq!(&report[17..30], b"GR\x02\x00\x03\x38\x00\x00\x00\x00\x00\x00\x00"); // order 2, ticks 0 to 3, badges 3, 4 and 5
+/// assert_eq!(&report[30..size], b"ED\x02\x00\x00\x00");
+///
+/// // members are counted in each group: none has four
+/// let large = ward::Thresholds { members: 4, ..Default::default() };
+/// let size = ward::report(&words, 6, 4, everyone, large, &mut report)?;
+/// assert_eq!(&report[..size], b"RH\x06\x04ED\x00\x00\x00\x00");
+/// # Ok::<(), ward::Refused>(())
+/// ```
 ///
 /// ```
 /// let words = [0b110, 0b101, 0b011, 0b010, 0b001, 0]; // three badges in contact, and in the next tick two of them
@@ -283,9 +332,10 @@ pub fn report(words: &[u64], badges: usize, ticks: usize, review: u64, threshold
     written(answer)
 }
 
-/// Puts the plan of a shift around a query into a buffer, and gives the number of bytes. Of the cuttings with the greatest sum of scores it is the one
-/// whose list of last ticks comes first, compared number by number. The badges under review and the query are sets with bit u for badge u: the scores are
-/// those of cores among the reviewed badges, of which the query must be, and a part of score 0 shows them all.
+/// Puts the plan of a shift around a query into a buffer, and gives the number of bytes. Of the cuttings with the greatest sum of scores it is the
+/// one whose list of last ticks comes first, compared number by number. The badges under review and the query are sets with bit u for badge u: the
+/// scores are those of cores among the reviewed badges, of which the query must be; a part shows such a core, not split into circles, and at score 0
+/// all reviewed badges.
 ///
 /// ```
 /// let words = [0b10, 0b01];

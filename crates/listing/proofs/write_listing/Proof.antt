@@ -5,10 +5,10 @@ use Rattle.listing.proofs.write_listing.Statement.{statement}
 use Rattle.listing.proofs.write_listing.Tie as tie
 
 abbrev Inv-loop : tie.InvT-loop
-Inv-loop answer report from₀ counter₀ from counter = counter ≤ 4657
+Inv-loop answer report from₀ counter₀ from counter = counter ≤ 5041
 
 abbrev μ-loop : tie.MeasureT-loop
-μ-loop answer report from₀ counter₀ from counter = 4657 - counter
+μ-loop answer report from₀ counter₀ from counter = 5041 - counter
 
 loop-holds : tie.Need-loop-holds Inv-loop μ-loop
 loop-holds c = search needs

@@ -13,7 +13,8 @@ pub struct Day {
 pub const NAMES: [&str; 6] = ["sparse", "busy", "dense", "random", "persistent", "empty"];
 
 impl Day {
-    /// A day of the tables, or document 01's day D1: contacts 0–1, 0–2 and 1–2 in ticks 0 to 1, and 2–3 in ticks 0 to 2.
+    /// A day of the tables, or document 01's day D1: contacts 0–1, 0–2 and 1–2 in ticks 0 to 1, and 2–3 in ticks 0 to 2. Or "circles", of which each
+    /// core falls apart: 32 pairs that are others in each tick.
     pub fn named(name: &str) -> Day {
         match name {
             "d1" => Day { badges: 4, ticks: 3, words: vec![6, 5, 11, 4, 6, 5, 11, 4, 0, 0, 8, 4] },
@@ -31,6 +32,7 @@ impl Day {
             "random" => empty.pairs(3, 500_000, 0),
             "persistent" => empty.pairs(4, 900_000, 80),
             "empty" => empty,
+            "circles" => empty.other_pairs(),
             _ => panic!("no day {name}"),
         }
     }
@@ -53,6 +55,19 @@ impl Day {
                     if met {
                         self.meet(t, u, v);
                     }
+                }
+            }
+        }
+        self
+    }
+
+    /// In tick t each badge with the one that makes the sum 2t + 1 with it, counted round their number.
+    fn other_pairs(mut self) -> Day {
+        for t in 0..self.ticks {
+            for u in 0..self.badges {
+                let v = (2 * t + 1 + self.badges - u) % self.badges;
+                if u < v {
+                    self.meet(t, u, v);
                 }
             }
         }

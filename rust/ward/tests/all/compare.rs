@@ -9,6 +9,7 @@ use crate::support::random::Random;
 use crate::support::receivers::{damage_one, end_to_end, join_all, random_receivers, resize_one};
 use crate::support::seen::all_seen;
 use crate::support::sets::{random_query, random_review, reviewable};
+use crate::support::teams::random_teams;
 use crate::thresholds::random_least;
 use crate::tidying::settles;
 
@@ -150,9 +151,10 @@ fn compare_words(random: &mut Random, words: &[u64], n: usize, ticks: usize, rev
     let mut room = |answer: Result<Vec<u8>, _>| near(random, answer.map_or(40, |bytes| bytes.len()));
     _ = day.write(room(day.log()));
     _ = day.report(room(day.groups(PLAIN)));
-    // about as much as a group on each span takes: with that much the call makes the report in the buffer, with less in memory of its own
-    let spans = ticks.min(96) * (ticks.min(96) + 1) / 2;
-    _ = day.report(near(random, 10 + 13 * spans));
+    // about as much as any report of such a day takes
+    let most = ward::report_bytes(n, ticks);
+    _ = day.report(near(random, most));
+    assert!(day.groups(PLAIN).map_or(0, |bytes| bytes.len()) <= most);
     let least = random_least(random, n, ticks);
     let room = near(random, day.groups(least).map_or(40, |bytes| bytes.len()));
     _ = day.filtered(least, room);
@@ -169,11 +171,12 @@ fn random_parts(random: &mut Random, ticks: usize) -> usize {
     if random.below(32) == 0 { usize::MAX } else { random.below(ticks.min(96) + 2) }
 }
 
-/// A random day, with words after it; in half of the cases damaged, or handed over with another size or too few words. All badges are under review in
-/// half of the cases, and else any.
+/// A random day, one of pairs that meet by chance or one of teams, with words after it; in half of the cases damaged, or handed over with another
+/// size or too few words. All badges are under review in half of the cases, and else any.
 fn compare_random_day(random: &mut Random, n: usize, ticks: usize) {
     let (density, keep) = (random.below(101), random.below(101));
-    let mut words = random_day(random, n, ticks, density, keep).words();
+    let day = if random.below(2) == 0 { random_day(random, n, ticks, density, keep) } else { random_teams(random, n, ticks) };
+    let mut words = day.words();
     words.extend((0..random.below(3)).map(|_| random.next()));
     let (mut handed_n, mut handed_ticks) = (n, ticks);
     match random.below(8) {
@@ -214,14 +217,16 @@ fn days_of_all_sizes() {
     }
 }
 
-/// With all badges under review, and with some.
+/// With all badges under review, and with some: days of pairs that meet by chance, and of teams.
 #[test]
 fn largest_days() {
     let mut random = Random(6);
-    for (density, keep) in [(1, 0), (5, 80), (50, 0), (90, 80), (100, 100), (0, 0)] {
-        let words = random_day(&mut random, 64, 96, density, keep).words();
-        compare_words(&mut random, &words, 64, 96, u64::MAX);
+    let by_chance = [(1, 0), (1, 80), (5, 80), (50, 0), (90, 80), (100, 100), (0, 0)];
+    let days = by_chance.map(|(density, keep)| random_day(&mut random, 64, 96, density, keep));
+    let teams: [_; 3] = std::array::from_fn(|_| random_teams(&mut random, 64, 96));
+    for day in days.iter().chain(&teams) {
+        compare_words(&mut random, &day.words(), 64, 96, u64::MAX);
         let review = reviewable(&mut random, 64);
-        compare_words(&mut random, &words, 64, 96, review);
+        compare_words(&mut random, &day.words(), 64, 96, review);
     }
 }

@@ -101,7 +101,7 @@ fn is_taken(words: &[u64], n: usize, ticks: usize, queries: &[u64]) {
         }
         Err(refusal) => assert_eq!(refusal, (15, 0)),
     }
-    assert!(day.report(ward::REPORT_BYTES).is_ok());
+    assert!(day.report(ward::report_bytes(n, ticks)).is_ok());
     for (first, last) in [(0, ticks - 1), (0, 0), (ticks / 2, ticks / 2)] {
         assert!(day.core_numbers(first, last, n).is_ok());
     }

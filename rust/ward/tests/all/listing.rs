@@ -1,17 +1,22 @@
 //! The listing: texts written by hand, damaged logs, the longest logs, and what is lent to it.
 
-use crate::model;
+use crate::model::{self, judge};
 use crate::support::d1::{MESSY, TIDY};
 use crate::support::days::{away_once, day_by, groups_with_away_once, log_of};
+use crate::support::digits::{MOST_LISTED, ONE_MORE, changing_groups, changing_pairs, digit_groups, digit_log};
 use crate::support::listings::{Listing, listed};
 use crate::support::logs::{damage, put_contact, random_log, with_one_byte_changed};
 use crate::support::random::Random;
 
 const D1: &str = "badges 4 ticks 3 groups 2\norder 2 ticks 0 to 1 badges 0 1 2\norder 1 ticks 0 to 2 badges 2 3\n";
 
-/// A text, lent as many words and bytes as are enough for every log.
+/// What the listing program lends: words for every day, and bytes for a report of at most 5,040 records.
+const WORDS: usize = 6144;
+const ROOM: usize = 65536;
+
+/// A text, lent as much as the program lends.
 fn text_of(log: &[u8]) -> String {
-    listed(log, 6144, 60538)
+    listed(log, WORDS, ROOM)
 }
 
 #[test]
@@ -43,6 +48,19 @@ const BY_HAND: &[(&[u8], &str)] = &[
         "badges 3 ticks 2 groups 2\norder 1 ticks 0 to 0 badges 0 1\norder 1 ticks 1 to 1 badges 0 2\n",
     ),
     (b"BH\x40\x60CT\x3f\x0a\x5f\x5fED\x01\x00\x00\x00", "badges 64 ticks 96 groups 1\norder 1 ticks 95 to 95 badges 10 63\n"),
+    // two pairs that never met, the one with the smallest badge first; and the same with a contact between them, in one tick of two and in both
+    (
+        b"BH\x04\x02CT\x02\x01\x00\x01CT\x03\x00\x00\x01ED\x02\x00\x00\x00",
+        "badges 4 ticks 2 groups 2\norder 1 ticks 0 to 1 badges 0 3\norder 1 ticks 0 to 1 badges 1 2\n",
+    ),
+    (
+        b"BH\x04\x02CT\x02\x01\x00\x01CT\x03\x00\x00\x01CT\x02\x03\x01\x01ED\x03\x00\x00\x00",
+        "badges 4 ticks 2 groups 2\norder 1 ticks 0 to 1 badges 0 3\norder 1 ticks 0 to 1 badges 1 2\n",
+    ),
+    (
+        b"BH\x04\x02CT\x02\x01\x00\x01CT\x03\x00\x00\x01CT\x02\x03\x00\x01ED\x03\x00\x00\x00",
+        "badges 4 ticks 2 groups 1\norder 1 ticks 0 to 1 badges 0 1 2 3\n",
+    ),
 ];
 
 #[test]
@@ -123,8 +141,8 @@ fn all_64_in_contact() {
     let (log, listing) = (log_of(&day), Listing::of_day(&day, &[(63, 0, 95, u64::MAX)]));
     let badges: String = (0..64).map(|v| format!(" {v}")).collect();
     let text = format!("badges 64 ticks 96 groups 1\norder 63 ticks 0 to 95 badges{badges}\n");
-    assert_eq!(listing.whole(&log, 6180, 60538, 65536), text);
-    assert_eq!(listed(&log, 6143, 60538), "refused 8 at 0\n");
+    assert_eq!(listing.whole(&log, 6180, ROOM, 65536), text);
+    assert_eq!(listed(&log, 6143, ROOM), "refused 8 at 0\n");
 }
 
 /// Badge t away from all others in tick t, for each t up to 63: 2,078 groups.
@@ -133,9 +151,43 @@ fn many_groups() {
     let (day, groups) = (away_once(), groups_with_away_once());
     assert_eq!(groups.len(), 2078);
     let (log, listing) = (log_of(&day), Listing::of_day(&day, &groups));
-    listing.whole(&log, 6180, 60538, 65536);
-    listing.whole(&log, 6144, 27024, 65536);
-    assert_eq!(listed(&log, 6144, 27023), "refused 9 at 0\n");
+    listing.whole(&log, 6180, ROOM, 65536);
+    listing.whole(&log, WORDS, 27024, 65536);
+    assert_eq!(listed(&log, WORDS, 27023), "refused 9 at 0\n");
+}
+
+/// The longest report that is listed has 5,040 records, 65,530 bytes, and its listing 5,041 lines. One contact more brings another record: 65,543
+/// bytes, which are refused where 65,536 are lent, and listed where there is room.
+#[test]
+fn longest_listing() {
+    let [log, one_more] = [MOST_LISTED, MOST_LISTED + 1].map(|contacts| digit_log(contacts, 3));
+    let mut groups = digit_groups(92, 3);
+    let listing = Listing::of_day(&judge(&log).expect("a log").0, &groups);
+    assert_eq!((listing.prepared, listing.lines.len()), (Ok(65530), 5041));
+    assert!(listing.lines[0] == "badges 64 ticks 96 groups 5040\n" && listing.lines[5040] == "order 1 ticks 89 to 91 badges 55 63\n");
+    for room in [ROOM, 65530] {
+        listing.whole(&log, WORDS, room, 65536);
+    }
+    assert_eq!(listed(&log, WORDS, 65529), "refused 9 at 0\n");
+    assert_eq!(text_of(&log), listing.lines.concat());
+
+    groups.push(ONE_MORE);
+    let listing = Listing::of_day(&judge(&one_more).expect("a log").0, &groups);
+    assert_eq!((listing.prepared, listing.lines.len()), (Ok(65543), 5042));
+    assert_eq!(text_of(&one_more), "refused 9 at 0\n");
+    assert_eq!(listed(&one_more, WORDS, 65542), "refused 9 at 0\n");
+    for room in [65543, ward::REPORT_BYTES] {
+        listing.whole(&one_more, WORDS, room, 65536);
+    }
+}
+
+/// 32 pairs, others in each tick: a line for each pair in each tick.
+#[test]
+fn pairs_that_change() {
+    let (log, day) = (digit_log(64 * 96, 1), changing_pairs());
+    assert!(text_of(&log).starts_with("badges 64 ticks 96 groups 3072\norder 1 ticks 0 to 0 badges 0 1\norder 1 ticks 0 to 0 badges 2 3\n"));
+    Listing::of_day(&judge(&log).expect("a log").0, &digit_groups(96, 1)).whole(&log, WORDS, ROOM, 65536);
+    Listing::of_day(&day, &changing_groups()).whole(&log_of(&day), WORDS, ROOM, 65536);
 }
 
 /// A log of n 4 and T 3 with so many contacts: 0–1, 1–2 and 2–3 in turn, in tick 0 and in ticks 0 to 1 by turns.
@@ -148,7 +200,7 @@ fn repeats(count: usize) -> Vec<u8> {
 #[test]
 fn most_contacts() {
     let mut log = repeats(8000);
-    for (lent, room) in [(6144, 60538), (400, 1400)] {
+    for (lent, room) in [(WORDS, ROOM), (400, 1400)] {
         assert_eq!(listed(&log, lent, room), "badges 4 ticks 3 groups 1\norder 1 ticks 0 to 1 badges 0 1 2 3\n");
     }
     log.resize(48100, 0);

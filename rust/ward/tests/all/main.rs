@@ -5,6 +5,7 @@
 mod model;
 mod support;
 
+mod circles;
 mod compare;
 mod join_refusals;
 mod joined;

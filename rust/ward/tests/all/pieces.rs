@@ -3,6 +3,7 @@
 use crate::model;
 use crate::support::d1::TIDY;
 use crate::support::days::{away_once, day_by, groups_with_away_once, log_of};
+use crate::support::digits::{MOST_LISTED, ONE_MORE, digit_groups, digit_log};
 use crate::support::lent::Lent;
 use crate::support::listings::{Listing, walk};
 use crate::support::probes;
@@ -14,7 +15,7 @@ use crate::support::random::Random;
 fn small_texts() {
     for log in [&TIDY[..], b"BH\x04\x03ED\x00\x00\x00\x00", b"BH\x04\x03CT\x00\x00\x00\x00"] {
         let listing = Listing::of_log(log, 20, 60);
-        for from in (0..8).chain([4657, usize::MAX]) {
+        for from in (0..8).chain([5041, usize::MAX]) {
             for size in 0..=100 {
                 listing.compare(log, 20, 60, from, size);
             }
@@ -31,10 +32,11 @@ struct Prepared {
 
 impl Prepared {
     fn of(log: &[u8], listing: Listing) -> Prepared {
-        let (mut words, mut report) = (vec![0; ward::WORDS], vec![0; ward::REPORT_BYTES]);
+        let size = listing.prepared.expect("a report");
+        let (mut words, mut report) = (vec![0; ward::WORDS], vec![0; size + 100]);
         let (prepared, _, _) = probes::listing(log, &mut words, &mut report, 0, &mut []);
-        assert_eq!(prepared, listing.prepared);
-        Prepared { size: prepared.expect("a report"), report, lines: listing.lines }
+        assert_eq!(prepared, Ok(size));
+        Prepared { size, report, lines: listing.lines }
     }
 
     /// Compares the piece from a place on in a buffer of so many bytes. Gives the place of the next line.
@@ -51,7 +53,7 @@ impl Prepared {
     /// The whole text in pieces of many sizes; pieces from random places, at most a few past the end; and calls from the end and past it, which give
     /// 0 bytes and the same place.
     fn comes_in_pieces(&self) {
-        // the first line of 2,078 groups has 31 bytes, and the longest line of any day 213
+        // the first line of 2,078 groups, or of 5,040, has 31 bytes, and the longest line of any day 213
         for size in [0, 1, 30, 31, 32, 212, 213, 214, 319, 320, 321, 999, 1000, 1001, 20000, 65536] {
             walk(self.lines.len(), size, |from| self.compare(from, size));
         }
@@ -60,7 +62,7 @@ impl Prepared {
             self.compare(random.below(self.lines.len() + 5), random.below(1001));
         }
         let end = self.lines.len();
-        for (from, size) in [(end, 320), (end + 1, 320), (4657, 65536), (usize::MAX - 1, 1000), (usize::MAX, 0)] {
+        for (from, size) in [(end, 320), (end + 1, 320), (end + 5041, 65536), (usize::MAX - 1, 1000), (usize::MAX, 0)] {
             assert_eq!(self.compare(from, size), from);
         }
     }
@@ -76,4 +78,15 @@ fn one_group_of_64() {
 fn many_groups() {
     let day = away_once();
     Prepared::of(&log_of(&day), Listing::of_day(&day, &groups_with_away_once())).comes_in_pieces();
+}
+
+/// The longest listing, of 5,041 lines, and the lines of a report that is one record longer.
+#[test]
+fn most_groups() {
+    let mut groups = digit_groups(92, 3);
+    for contacts in [MOST_LISTED, MOST_LISTED + 1] {
+        let log = digit_log(contacts, 3);
+        Prepared::of(&log, Listing::of_day(&model::judge(&log).expect("a log").0, &groups)).comes_in_pieces();
+        groups.push(ONE_MORE);
+    }
 }

@@ -7,6 +7,7 @@ use crate::support::handed::Handed;
 use crate::support::random::Random;
 use crate::support::seen::all_seen;
 use crate::support::sets::{random_set, reviewable};
+use crate::support::teams::random_teams;
 use crate::thresholds::random_least;
 
 /// D1 under every review: its core numbers on ticks 0 to 1, and its groups. Without badge 3 the three others stay in contact. Without one of these, the
@@ -185,8 +186,9 @@ fn compare_left_out(random: &mut Random, words: &[u64], n: usize, ticks: usize) 
     let ends = [random.below(ticks), random.below(ticks)];
     let (first, last) = (ends[0].min(ends[1]), ends[0].max(ends[1]));
     assert_eq!(left_out.core_numbers(first, last, n), cleared.core_numbers(first, last, n));
+    let room = ward::report_bytes(n, ticks);
     for least in [PLAIN, random_least(random, n, ticks)] {
-        assert_eq!(left_out.filtered(least, ward::REPORT_BYTES), cleared.filtered(least, ward::REPORT_BYTES));
+        assert_eq!(left_out.filtered(least, room), cleared.filtered(least, room));
     }
     let (query, parts) = (random_set(random, 4) & review, 1 + random.below(ticks));
     let plan = cleared.plan(query, parts, ward::PLAN_BYTES).expect("a plan");
@@ -199,8 +201,8 @@ fn left_out_of_random_days() {
     for i in 0..2000 {
         let most = if i % 100 == 0 { 24 } else { 9 };
         let (n, ticks, density, keep) = (1 + random.below(most), 1 + random.below(most), random.below(101), random.below(101));
-        let words = random_day(&mut random, n, ticks, density, keep).words();
-        compare_left_out(&mut random, &words, n, ticks);
+        let day = if random.below(2) == 0 { random_day(&mut random, n, ticks, density, keep) } else { random_teams(&mut random, n, ticks) };
+        compare_left_out(&mut random, &day.words(), n, ticks);
     }
     all_seen("report", &[17]);
 }

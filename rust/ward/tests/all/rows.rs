@@ -82,7 +82,7 @@ fn compare_highest(random: &mut Random, rows: &[u64; 64], graph: &Graph) {
     let bound = 1 + random.below(80);
     let (above, most) = (random.below(bound) as u8, random.below(80) as u8);
     let (order, members) = highest(graph, base, query, above, most);
-    assert_eq!(highest_core(rows, base, query, above, most), (order, members, kept(rows, members)));
+    assert_eq!(highest_core(rows, base, query, above, most), (order, members, *rows));
 }
 
 /// Of rows that are not symmetric: the degree of a badge is the number of rows that it is in.

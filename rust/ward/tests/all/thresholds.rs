@@ -158,7 +158,7 @@ fn kept_of_random_days() {
         let most = if i % 100 == 0 { 24 } else { 9 };
         let (n, ticks, density, keep) = (1 + random.below(most), 1 + random.below(most), random.below(101), random.below(101));
         let day = Handed::new(&random_day(&mut random, n, ticks, density, keep).words(), n, ticks);
-        let plain = day.report(ward::REPORT_BYTES).expect("a report");
+        let plain = day.report(ward::report_bytes(n, ticks)).expect("a report");
         for _ in 0..20 {
             let least = random_least(&mut random, n, ticks);
             compare_kept(&mut random, &day, &plain, least);

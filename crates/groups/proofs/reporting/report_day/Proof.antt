@@ -2,12 +2,14 @@
 use mathlib.Core.Path.{sym, ap, _∙_}
 use mathlib.Core.List.{List}
 use Prim.Native.Nat.{ℕ}
+use native.Mathlib.Omega.{arith}
 use borrow.Author.Needs.{needs}
 use borrow.Author.Tests.{not-true, not-false}
 use Rattle.sets.specs.Members.{members}
 use Rattle.records.specs.Outcomes.{Outcome}
 use Rattle.log.specs.Buffers.{deliver}
 use Rattle.log.proofs.Delivering.{leaves-refused}
+use Rattle.thresholds.proofs.Enough.{ranges-of}
 use Rattle.spans.proofs.Judging.{judged-range, judged-report}
 use Rattle.groups.proofs.reporting.report_day.Statement.{statement}
 use Rattle.groups.proofs.reporting.report_day.Tie as tie
@@ -19,7 +21,11 @@ returns : tie.Need-returns
 returns c = leaves-refused _ (judged-range _ _ _ _ _ (sym (c .before .in-range .ensures) ∙ not-true _ (c .if1 .taken)))
 
 report-groups-requires : tie.Need-report-groups-requires
-report-groups-requires c κs = c .before .before .before .before .before .pre
+report-groups-requires c κs =
+    let r = c .before in
+    let s = r .before .before .before .before in
+    let range = ranges-of (s .args .least) (sym (r .before .in-range .ensures) ∙ not-false _ (r .if1 .left)) in
+    (s .pre .0, s .pre .1, omega (arith, range .members-low))
 
 same-length : tie.Need-same-length
 same-length c = search needs

@@ -1,112 +1,64 @@
--- `report_groups` meets its contract: a buffer that holds any report of so many ticks holds this one, and else what is delivered is the report that was
--- encoded.
-use mathlib.Core.Path.{sym, ap, _∙_}
-use mathlib.Core.List.{List}
-use Prim.Native.Nat.{ℕ, _+_, _*_, _≤_}
+-- `report_groups` meets its contract: the cores that are found make as many records as the report has, and a buffer that holds it gets it.
+use Prim.Native.Nat.{_≤_}
 use native.Mathlib.Omega.{arith}
-use lib.ListN.{length}
-use lib.Seq.{length-take-le}
 use borrow.Author.Needs.{needs}
-use Rattle.records.specs.Limits.{maxTicks}
-use Rattle.records.specs.Outcomes.{Outcome, success}
-use Rattle.records.proofs.WithinLimits.{limits-of}
-use Rattle.log.specs.Buffers.{deliver}
-use Rattle.groups.proofs.ReportBytes.{most-small, encoded-front, encoded-here}
+use Rattle.groups.proofs.ReportBytes.{found-size, found-few, found-cores, delivers-nothing, delivers-written}
 use Rattle.groups.proofs.reporting.report_groups.Statement.{statement}
 use Rattle.groups.proofs.reporting.report_groups.Tie as tie
 
-short : (c : tie.Start) → c .args .day .ticks ≤ maxTicks
-short c = limits-of (c .pre .0 .limits) .short
+slice-aggregate-find-cores : tie.Need-slice-aggregate-find-cores
+slice-aggregate-find-cores c = search needs
 
-most-bytes-requires : tie.Need-most-bytes-requires
-most-bytes-requires c κs = short (c .before .before)
+find-cores-requires : tie.Need-find-cores-requires
+find-cores-requires c κs = let p = c .before .before .before .pre in (p .0, p .1, p .2, omega arith)
 
-encode-report-requires : tie.Need-encode-report-requires
-encode-report-requires c κs =
-    let t = c .before in
-    let m = t .before in
-    let p = m .before .before .before .pre in
-    (p .0, p .1, omega (arith, t .if1 .taken, m .most-bytes .ensures))
+-- the cores and the records are few
+few : (f : tie.After-find-cores) → (f .find-cores .result .cores ≤ 4656) × (f .find-cores .result .records ≤ 1187280)
+few f = let p = f .before .before .before .before .pre in found-few (p .0) (p .1) _ (f .find-cores .ensures)
 
--- the report has no more bytes than the most
-small : (c : tie.After-encode-report) → let t = c .before .before in
-    (10 + 13 * c .encode-report .result ≤ 60538) × (10 + 13 * c .encode-report .result ≤ length (t .before .before .before .before .args .buffer .now))
-small c =
-    let t = c .before .before in
-    let m = t .before in
-    (omega (arith, c .encode-report .ensures .few, most-small (short (m .before .before .before))), omega (arith, c .encode-report .ensures .few, t .if1 .taken, m .most-bytes .ensures))
+mul-size : tie.Need-mul-size
+mul-size c = omega (arith, few (c .before .before) .1)
 
-mul-t13 : tie.Need-mul-t13
-mul-t13 c = omega (arith, small (c .before .before) .0)
+add-size : tie.Need-add-size
+add-size c = omega (arith, few (c .before .before) .1)
 
-add-t14 : tie.Need-add-t14
-add-t14 c = omega (arith, small (c .before .before) .0)
+returns : tie.Need-returns
+returns c =
+    let f = c .before .before .before in
+    let s = f .before .before .before .before in
+    delivers-nothing (omega (arith, found-size (s .pre .0) (s .pre .1) (s .args .least) (f .find-cores .ensures), c .if1 .taken))
+
+slice-aggregate-write-report : tie.Need-slice-aggregate-write-report
+slice-aggregate-write-report c = search needs
+
+write-report-requires : tie.Need-write-report-requires
+write-report-requires c κs =
+    let e = c .before .before in
+    let f = e .before .before .before in
+    let s = f .before .before .before .before in
+    found-cores (s .pre .0) (s .pre .1) (s .args .least) (f .find-cores .ensures) (omega arith) (e .if1 .left)
 
 same-length : tie.Need-same-length
 same-length c = search needs
 
-returns : tie.Need-returns
-returns c = let n = c .before .before in encoded-here (n .encode-report .ensures) (small n .1)
-
-slice-aggregate-encode-report : tie.Need-slice-aggregate-encode-report
-slice-aggregate-encode-report c = search needs
-
-encode-report-requires-2 : tie.Need-encode-report-requires-2
-encode-report-requires-2 c κs = let s = c .before .before .before .before .before in (s .pre .0, s .pre .1, omega (arith, most-small (short s)))
-
--- and no more than the memory of its own holds
-fits : (c : tie.After-encode-report2) → 10 + 13 * c .encode-report2 .result ≤ 60538
-fits c = omega (arith, c .encode-report2 .ensures .few, most-small (short (c .before .before .before .before .before .before)))
-
-mul-bytes : tie.Need-mul-bytes
-mul-bytes c = omega (arith, fits (c .before))
-
-add-bytes : tie.Need-add-bytes
-add-bytes c = omega (arith, fits (c .before))
-
-array-share-prefix-bytes : tie.Need-array-share-prefix-bytes
-array-share-prefix-bytes c = omega (arith, fits (c .before))
-
-slice-aggregate-deliver : tie.Need-slice-aggregate-deliver
-slice-aggregate-deliver c = sym (length-take-le _ _ (omega (arith, fits (c .before .before))))
-
-deliver-requires : tie.Need-deliver-requires
-deliver-requires c κs = search needs
-
-delivered-requires : tie.Need-delivered-requires
-delivered-requires c κs = search needs
-
-same-length-2 : tie.Need-same-length-2
-same-length-2 c = search needs
-
 returns-2 : tie.Need-returns-2
 returns-2 c =
-    let d = c .before .before .before in
-    let n = d .before .before .before .before in
-    let buffer = n .before .before .before .before .before .before .args .buffer .now in
-    let e = ap (λ (b : List ℕ). success b) (encoded-front (n .encode-report2 .ensures)) in
-    record {
-      answer = c .delivered .ensures ∙ d .deliver .ensures .0 ∙ ap (λ (o : Outcome (List ℕ)). deliver o buffer .answer) e;
-      leaves = d .deliver .ensures .1 ∙ ap (λ (o : Outcome (List ℕ)). deliver o buffer .buffer) e;
-    }
+    let w = c .before .before in
+    let e = w .before .before .before in
+    let f = e .before .before .before in
+    let s = f .before .before .before .before in
+    delivers-written (found-size (s .pre .0) (s .pre .1) (s .args .least) (f .find-cores .ensures)) (e .if1 .left) (w .write-report .ensures)
 
 pub report-groups-spec : {M : Type 1} → statement M
 report-groups-spec =
     tie.close
     (tie.spec
-    most-bytes-requires
-    encode-report-requires
-    mul-t13
-    add-t14
-    same-length
+    slice-aggregate-find-cores
+    find-cores-requires
+    mul-size
+    add-size
     returns
-    slice-aggregate-encode-report
-    encode-report-requires-2
-    mul-bytes
-    add-bytes
-    array-share-prefix-bytes
-    slice-aggregate-deliver
-    deliver-requires
-    delivered-requires
-    same-length-2
+    slice-aggregate-write-report
+    write-report-requires
+    same-length
     returns-2)

@@ -1,14 +1,14 @@
 -- `span_rows` meets its contract: the rows of the first tick are narrowed to those of the span.
-use mathlib.Core.Path.{refl, sym, ap, _∙_}
+use mathlib.Core.Path.{sym, ap, _∙_}
 use lib.ListN.{length}
 use borrow.Author.Needs.{needs}
 use Rattle.spans.proofs.SpanRows.{span-length}
-use Rattle.groups.proofs.Narrowing.{first-of, first-alone}
+use Rattle.groups.proofs.Narrowing.{empty-zeros, first-of, first-alone}
 use Rattle.groups.proofs.rows.span_rows.Statement.{statement}
 use Rattle.groups.proofs.rows.span_rows.Tie as tie
 
 first-rows-requires : tie.Need-first-rows-requires
-first-rows-requires c κs = (first-alone (c .before .before .pre), refl)
+first-rows-requires c κs = (first-alone (c .before .before .pre), empty-zeros _)
 
 slice-aggregate-narrow-to : tie.Need-slice-aggregate-narrow-to
 slice-aggregate-narrow-to c = sym (ap length (c .before .first-rows .ensures) ∙ span-length _ _ _ _)

@@ -1,7 +1,7 @@
 //! Algorithm 2 of the span-core paper, with its slips mended: spans from long to short; on each the larger order of the two that are one tick longer
 //! is a lower bound, and only badges with more neighbours than that are looked at, for the innermost core above it.
 
-use super::lists::neighbours;
+use super::lists::{circles, neighbours};
 use super::{encode_report, is_day, members, Group};
 
 /// The innermost core above an order among the badges of a span: its order and members, if there is one.
@@ -48,12 +48,13 @@ pub fn report(words: &[u64], n: usize, ticks: usize, out: &mut [u8]) -> Option<u
             let after = if last + 1 == ticks { 0 } else { orders[first * ticks + last + 1] };
             let bound: usize = before.max(after);
             orders[first * ticks + last] = bound;
-            if let Some((order, core)) = innermost(&neighbours(words, n, first, last), bound) {
+            let neighbours = neighbours(words, n, first, last);
+            if let Some((order, core)) = innermost(&neighbours, bound) {
                 orders[first * ticks + last] = order;
-                groups.push((order as u8, first, last, core));
+                groups.extend(circles(&neighbours, core).into_iter().map(|circle| (order as u8, first, last, circle)));
             }
         }
     }
-    groups.sort_by_key(|g| (g.1, g.2));
+    groups.sort_by_key(|g| (g.1, g.2)); // stable: the circles of a core stay in their order
     encode_report(n, ticks, &groups, out)
 }

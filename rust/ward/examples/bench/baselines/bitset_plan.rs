@@ -58,7 +58,7 @@ pub fn plan(words: &[u64], n: usize, ticks: usize, query: u64, parts: usize, out
     let mut lines = Lines::new(words, n, ticks);
     let scores: Vec<Line> = (0..ticks)
         .map(|first| {
-            lines.walk(first, query, |_, _, _| {});
+            lines.walk(first, query, |_, _, _, _| {});
             lines.scores.map(|score| score as u16)
         })
         .collect();

@@ -1,6 +1,6 @@
 //! A plain version with bitsets: for each first tick the rows of all its spans are narrowed tick by tick, until no contact is left; then the last
 //! tick walks downward, and each span is peeled above the orders of the two that are one tick longer. The report's orders are the scores of the empty
-//! query; the plan has its own query, and a core counts only if it contains that.
+//! query; the plan has its own query, and a core counts only if it contains that. The report splits each core that is shown, by the span's rows.
 
 use super::{encode_report, is_day, Group};
 
@@ -31,6 +31,17 @@ pub fn core(rows: &[u64; 64], mut set: u64, query: u64, k: u32) -> Option<(u64, 
             return Some((set, least));
         }
     }
+}
+
+/// The circle of a set's smallest member: the rows of those that are reached are united, within the set, until nobody is left to reach.
+fn first_circle(rows: &[u64; 64], set: u64) -> u64 {
+    let (mut circle, mut waiting) = (0, set & set.wrapping_neg());
+    while waiting != 0 {
+        let u = waiting.trailing_zeros() as usize;
+        circle |= 1 << u;
+        waiting = (waiting | rows[u] & set) & !circle;
+    }
+    circle
 }
 
 /// The scores of the spans from one first tick after the other.
@@ -66,8 +77,9 @@ impl Lines<'_> {
         }
     }
 
-    /// Goes on to the next first tick, and shows the cores whose order is above that of both spans one tick longer, from the last tick downward.
-    pub fn walk(&mut self, first: usize, query: u64, mut show: impl FnMut(u32, usize, u64)) {
+    /// Goes on to the next first tick, and shows the cores whose order is above that of both spans one tick longer, from the last tick downward, with
+    /// the rows of their spans.
+    pub fn walk(&mut self, first: usize, query: u64, mut show: impl FnMut(u32, usize, u64, &[u64; 64])) {
         self.narrow(first, query);
         self.scores[first + self.spans.len()..].fill(0);
         for (i, &(ref rows, joined)) in self.spans.iter().enumerate().rev() {
@@ -80,7 +92,7 @@ impl Lines<'_> {
             }
             self.scores[last] = k;
             if k > bound {
-                show(k, last, set);
+                show(k, last, set, rows);
             }
         }
     }
@@ -94,7 +106,15 @@ pub fn report(words: &[u64], n: usize, ticks: usize, out: &mut [u8]) -> Option<u
     let mut lines = Lines::new(words, n, ticks);
     for first in 0..ticks {
         let from = groups.len();
-        lines.walk(first, 0, |order, last, members| groups.push((order as u8, first, last, members)));
+        lines.walk(first, 0, |order, last, mut core, rows| {
+            let from = groups.len();
+            while core != 0 {
+                let circle = first_circle(rows, core);
+                core &= !circle;
+                groups.push((order as u8, first, last, circle));
+            }
+            groups[from..].reverse();
+        });
         groups[from..].reverse();
     }
     encode_report(n, ticks, &groups, out)

@@ -1,5 +1,5 @@
 //! Every span's core decomposition, with lists of neighbours and badges kept in order of degree, and then the filter: a core is maximal if no
-//! containing span has an order as large.
+//! containing span has an order as large. The circles of a maximal core are found by searching from each member that none has yet.
 
 use super::{encode_report, is_day, members, Group};
 
@@ -54,6 +54,26 @@ pub fn core_numbers(neighbours: &[Vec<usize>]) -> Vec<usize> {
     degree
 }
 
+/// The circles of a set, by smallest member: from each member that is in none yet, those that are reached through members.
+pub fn circles(neighbours: &[Vec<usize>], set: u64) -> Vec<u64> {
+    let (mut left, mut circles) = (set, Vec::new());
+    while left != 0 {
+        let before = left;
+        let mut waiting = vec![left.trailing_zeros() as usize];
+        left &= left - 1;
+        while let Some(u) = waiting.pop() {
+            for &v in &neighbours[u] {
+                if left >> v & 1 == 1 {
+                    left &= !(1 << v);
+                    waiting.push(v);
+                }
+            }
+        }
+        circles.push(before & !left);
+    }
+    circles
+}
+
 pub fn report(words: &[u64], n: usize, ticks: usize, out: &mut [u8]) -> Option<usize> {
     if !is_day(words, n, ticks) {
         return None;
@@ -75,7 +95,8 @@ pub fn report(words: &[u64], n: usize, ticks: usize, out: &mut [u8]) -> Option<u
             let before = if first == 0 { 0 } else { order(first - 1, last) };
             let after = if last + 1 == ticks { 0 } else { order(first, last + 1) };
             if top > before.max(after) {
-                groups.push((top as u8, first, last, set));
+                let circles = circles(&neighbours(words, n, first, last), set);
+                groups.extend(circles.into_iter().map(|circle| (top as u8, first, last, circle)));
             }
         }
     }

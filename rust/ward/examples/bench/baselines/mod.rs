@@ -6,7 +6,7 @@ pub mod bitset_plan;
 pub mod bitsets;
 pub mod lists;
 
-/// A maximal core, or a part of a plan: order or score, first tick, last tick, members.
+/// A circle of a maximal core, or a part of a plan: order or score, first tick, last tick, members.
 pub type Group = (u8, usize, usize, u64);
 
 /// All badges below n.

@@ -51,6 +51,28 @@ impl Graph {
         (1..).map(|k| self.core(base, k)).take_while(|core| *core != 0).collect()
     }
 
+    /// The members of a set that can be reached from one of them through chains of pairs between members: what is joined to somebody reached is added
+    /// until nobody is left to add.
+    fn reached(&self, set: u64, from: usize) -> u64 {
+        let n = self.joined.len();
+        let mut reached = 1 << from;
+        while let Some(v) = (0..n).find(|&v| set & !reached & 1 << v != 0 && (0..n).any(|u| reached >> u & 1 == 1 && self.joined[u][v])) {
+            reached |= 1 << v;
+        }
+        reached
+    }
+
+    /// The circles of a set, by smallest member: "its members split by who is joined to whom through chains of the span's pairs between members".
+    pub fn circles(&self, set: u64) -> Vec<u64> {
+        let mut circles: Vec<u64> = Vec::new();
+        for u in (0..self.joined.len()).filter(|u| set >> u & 1 == 1) {
+            if circles.iter().all(|circle| circle >> u & 1 == 0) {
+                circles.push(self.reached(set, u));
+            }
+        }
+        circles
+    }
+
     /// The largest order whose core has the badge, else 0: for each badge.
     pub fn core_numbers(&self, base: u64) -> Vec<u8> {
         let cores = self.cores(base);

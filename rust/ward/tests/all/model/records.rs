@@ -1,6 +1,6 @@
 //! Reports and plans in bytes.
 
-/// A record of a report or a plan: order or score, first tick, last tick, members.
+/// A record of a report or a plan: order or score, first tick, last tick, members. In a report the members are those of one circle.
 pub type Record = (usize, usize, usize, u64);
 
 /// Records in bytes, after a header and before an end with their number.

@@ -5,8 +5,11 @@ use std::cmp::Reverse;
 
 /// The cores of every span of a day, among the badges under review.
 pub struct Cores {
+    n: usize,
     ticks: usize,
     review: u64,
+    /// For each tick and pair, how many ticks the pair stays in contact, from the tick on, without a break.
+    stay: Vec<Vec<Vec<usize>>>,
     /// For each first and last tick the cores of order 1, 2 and so on, as far as there are any.
     of_span: Vec<Vec<u64>>,
 }
@@ -14,7 +17,6 @@ pub struct Cores {
 impl Cores {
     pub fn of(day: &Day, review: u64) -> Cores {
         let (n, ticks) = (day.n, day.ticks);
-        // how many ticks the pair stays in contact, from a tick on, without a break
         let mut stay = vec![vec![vec![0; n]; n]; ticks + 1];
         for t in (0..ticks).rev() {
             for u in 0..n {
@@ -23,13 +25,18 @@ impl Cores {
                 }
             }
         }
-        let mut of_span = vec![Vec::new(); ticks * ticks];
+        let mut cores = Cores { n, ticks, review, stay, of_span: vec![Vec::new(); ticks * ticks] };
         for first in 0..ticks {
             for last in first..ticks {
-                of_span[first * ticks + last] = Graph::new(n, |u, v| stay[first][u][v] > last - first).cores(review);
+                cores.of_span[first * ticks + last] = cores.throughout(first, last).cores(review);
             }
         }
-        Cores { ticks, review, of_span }
+        cores
+    }
+
+    /// The pairs in contact in every tick of a span.
+    fn throughout(&self, first: usize, last: usize) -> Graph {
+        Graph::new(self.n, |u, v| self.stay[first][u][v] > last - first)
     }
 
     fn on(&self, first: usize, last: usize) -> &[u64] {
@@ -42,8 +49,8 @@ impl Cores {
         orders.next_back().map_or((0, self.review), |(place, core)| (place + 1, *core))
     }
 
-    /// The maximal cores, by first tick and then last tick.
-    pub fn groups(&self) -> Vec<Record> {
+    /// The maximal cores, by first tick and then last tick: "Domination is still by order and span of the whole core."
+    fn maximal(&self) -> Vec<Record> {
         let mut all: Vec<Record> = Vec::new();
         for first in 0..self.ticks {
             for last in first..self.ticks {
@@ -53,6 +60,15 @@ impl Cores {
         }
         let larger = |a: &Record, b: &Record| a != b && a.0 >= b.0 && a.1 <= b.1 && a.2 >= b.2;
         all.iter().copied().filter(|b| !all.iter().any(|a| larger(a, b))).collect()
+    }
+
+    /// The circles of the maximal cores, each with its core's order and span: "ordered by first tick, last tick, smallest member".
+    pub fn groups(&self) -> Vec<Record> {
+        let circles = |(order, first, last, core)| {
+            let circles = self.throughout(first, last).circles(core);
+            circles.into_iter().map(move |circle| (order, first, last, circle))
+        };
+        self.maximal().into_iter().flat_map(circles).collect()
     }
 
     /// The parts that end with these ticks, around a query: score and members of each.

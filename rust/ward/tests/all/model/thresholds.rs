@@ -20,7 +20,8 @@ pub fn check_least([ticks, order, members]: Least) -> Result<(), Refusal> {
     if good { Ok(()) } else { Err((17, 0)) }
 }
 
-/// "the records of the full report that meet all three, in their order"
+/// "the records of the full report that meet all three, in their order". A record has the length and the order of its core, and the members of one
+/// circle of it: "Least members is counted per circle."
 pub fn kept(groups: &[Record], [ticks, order, members]: Least) -> Vec<Record> {
     let meets = |group: &&Record| group.2 - group.1 + 1 >= ticks && group.0 >= order && group.3.count_ones() as usize >= members;
     groups.iter().filter(meets).copied().collect()

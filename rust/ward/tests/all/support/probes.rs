@@ -72,7 +72,7 @@ pub fn core_numbers(rows: &[u64; 64], base: u64) -> [u8; 64] {
     out
 }
 
-/// The core of the largest order above one order and up to another that contains the query: its order, its members and their rows.
+/// The core of the largest order above one order and up to another that contains the query: its order and its members, and the rows as they came back.
 pub fn highest_core(rows: &[u64; 64], base: u64, query: u64, above: u8, most: u8) -> (u8, u64, [u64; 64]) {
     let (mut out, mut answer) = ([u64::MAX; 64], [u64::MAX; 2]);
     unsafe { probe_highest_core(rows, base, query, above, most, &mut out, &mut answer) };
