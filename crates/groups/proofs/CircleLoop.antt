@@ -1,6 +1,6 @@
 -- Laws of the loop that appends the records of a core's circles: at its start, after one circle more, and at its end.
 use mathlib.Core.Path.{_≡_, refl, sym, ap, subst, _∙_}
-use mathlib.Core.List.{List, [], _∷_, _++_, map, append-assoc, append-nil}
+use mathlib.Core.List.{List, [], _∷_, _++_, map-append, append-assoc, append-nil}
 use Prim.Native.Nat.{ℕ, _^_, _≤_, _<_}
 use native.Mathlib.Omega.{arith}
 use lib.Dec.{leb}
@@ -19,10 +19,6 @@ use Rattle.spans.specs.SpanCores.{SpanCore}
 use Rattle.spans.specs.CircleRecords.{withMembers}
 use Rattle.groups.specs.Appending.{AppendsCores, largeRecords, CircleRoom}
 use Rattle.groups.proofs.Appended.{appends-none, appends-then}
-
-map-append : {A B : Type 0} (f : A → B) (xs ys : List A) → map f (xs ++ ys) ≡ map f xs ++ map f ys
-map-append f [] ys = refl
-map-append f (x ∷ xs) ys = ap (λ (l : List _). f x ∷ l) (map-append f xs ys)
 
 module _ (core : SpanCore) (enough : ℕ) where
   none : largeRecords core enough [] ≡ []

@@ -145,18 +145,12 @@ module _ {n T : ℕ} {ws : List ℕ} {base query first enough : ℕ} {orders : L
       above = f .above last (le-refl last);
     }
 
-    -- the tick is a place of all lists
+    -- the tick is a place of the orders, and of every table with a place for each tick
     pub place-orders : last < length orders′
     place-orders = omega (arith, f .found .orders-size, b .size, limits-of (d .limits) .short)
 
-    pub place-members : last < length members′
-    place-members = omega (arith, f .found .members-size, limits-of (d .limits) .short)
-
-    pub place-circles : last < length circles′
-    place-circles = omega (arith, f .found .circles-size, limits-of (d .limits) .short)
-
-    pub place-large : last < length large′
-    place-large = omega (arith, f .found .large-size, limits-of (d .limits) .short)
+    pub place-table : {size : ℕ} → size ≡ maxTicks → last < size
+    place-table e = omega (arith, e, limits-of (d .limits) .short)
 
     -- a span more is found, and its counts stand in the tables
     pub finding-next : {order word : ℕ} {narrowed : List ℕ} {tick : ℕ} {circles″ large″ : List ℕ} → OnlyAt last circles′ circles″ → OnlyAt last large′ large″
@@ -174,7 +168,7 @@ module _ {n T : ℕ} {ws : List ℕ} {base query first enough : ℕ} {orders : L
         large-size = y .size ∙ f .found .large-size;
         after = λ i p. getD-set-other orders′ last i order 0 (λ e. omega arith) ∙ f .found .after i (omega arith);
         score = λ i p q. put (scoreOn n ws base query first) orders′ order place-orders (c .score) (f .found .score) i p q;
-        new = λ i p q. put (newMembers n ws base query first) members′ word place-members (c .new) (f .found .new) i p q;
+        new = λ i p q. put (newMembers n ws base query first) members′ word (place-table (f .found .members-size)) (c .new) (f .found .new) i p q;
         counted = λ k i p q r. by-cases (decLt i last) (earlier k i p r) (λ h. here k i (omega arith) r);
       };
     }
@@ -196,7 +190,7 @@ module _ {n T : ℕ} {ws : List ℕ} {base query first enough : ℕ} {orders : L
         here : 1 ≤ enough → (i : ℕ) → i ≡ last → 0 < getD (set members′ last word) i 0
             → Counted (circles (spanNeighbours n ws first i) (getD (set members′ last word) i 0)) enough (getD circles″ i 0) (getD large″ i 0)
         here k i t r =
-            let e : getD (set members′ last word) last 0 ≡ word = getD-set-same members′ last word 0 place-members in
+            let e : getD (set members′ last word) last 0 ≡ word = getD-set-same members′ last word 0 (place-table (f .found .members-size)) in
             let s : 0 < word = rw (t, e) at r in
             rw (t, e) (c .counted k s)
 

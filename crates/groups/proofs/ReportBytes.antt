@@ -6,9 +6,8 @@ use Prim.Native.Nat.{ℕ, _+_, _-_, _*_, _≤_, _<_}
 use native.Mathlib.Omega.{arith}
 use lib.ListN.{length, getD, take, drop, take-append-drop, length-append}
 use Rattle.sets.specs.Ascii.{ascii}
-use Rattle.sets.specs.Sets.{Sub, full, size}
+use Rattle.sets.specs.Sets.{size}
 use Rattle.sets.specs.Members.{capacity}
-use Rattle.sets.proofs.Sets.{sub-trans}
 use Rattle.sets.proofs.Size.{size-le}
 use Rattle.records.specs.declared.record.Record.the-variants.{End}
 use Rattle.records.specs.Outcomes.{refused, success}
@@ -19,23 +18,23 @@ use Rattle.days.specs.Days.{LentDay}
 use Rattle.log.specs.Buffers.{place}
 use Rattle.log.proofs.Delivering.{length-place, take-place, drop-place, deliver-fits, deliver-short}
 use Rattle.cores.specs.Rows.{graph}
-use Rattle.cores.proofs.Cores.{core-sub}
 use Rattle.circles.specs.Circles.{atLeast, circles as circles′}
 use Rattle.circles.proofs.CircleLists.{circles-few}
 use Rattle.thresholds.specs.declared.Thresholds.{Thresholds}
-use Rattle.spans.specs.Spans.{SpanOfDay, spanNeighbours, spanRows}
+use Rattle.spans.specs.Spans.{spanNeighbours, spanRows}
 use Rattle.spans.specs.Reviews.{Review}
-use Rattle.spans.specs.SpanCores.{SpanCore, Mem, coreOn}
+use Rattle.spans.specs.SpanCores.{SpanCore, Mem}
 use Rattle.spans.specs.Reports.{groupsOf}
 use Rattle.spans.specs.KeptGroups.{meets, kept}
 use Rattle.spans.specs.CircleRecords.{circlesOf, recordsOf, circleRecords, shownRecords}
+use Rattle.spans.specs.CoreStatement.{CoreStatement}
 use Rattle.spans.specs.Encoding.{maxCores, maxRecords, encodeCores, reportBytes}
 use Rattle.spans.proofs.SpanCircles.{day-small, span-circles}
-use Rattle.spans.proofs.Maximal.{score-has, score-on-le}
-use Rattle.spans.proofs.GroupLists.{Shown, of-groups, group-parts}
+use Rattle.spans.proofs.GroupLists.{of-groups, group-few, groups-stated, cores-stated}
 use Rattle.spans.proofs.KeptRecords.{meets-of, of-kept, kept-append, kept-records, kept-le}
 use Rattle.spans.proofs.KeptCores.{kept-enough, whole-circle}
 use Rattle.spans.proofs.RecordLists.{circle-records-append}
+use Rattle.spans.proofs.CircleStated.{core-span, core-inside, core-small}
 use Rattle.spans.proofs.MostGroups.{report-length, groups-few}
 use Rattle.spans.proofs.MostRecords.{records-few, most-small}
 use Rattle.groups.specs.Keeping.{packed, total, Unpacked, circleCount, recordCount, FindsCores}
@@ -50,18 +49,11 @@ module _ {n T : ℕ} {ws : List ℕ} {base : ℕ} (lent : LentDay n T ws) (r : R
   abbrev cores : List SpanCore
   cores = kept least (groupsOf n T ws base)
 
+  stated : CoreStatement n T ws base least cores
+  stated = groups-stated n T ws base least lent (r .named)
+
   module _ (c : SpanCore) (i : Mem c cores) where
-    shown : Shown n T ws base c
-    shown = of-groups n T ws base c (of-kept least (groupsOf n T ws base) i .0)
-
-    -- its span, its badges, and that it meets the thresholds
-    core-span : SpanOfDay n T ws (c .first) (c .last)
-    core-span = record { lent = lent; rising = shown .rising; inside = shown .inside }
-
-    core-named : Sub (c .members) (full n)
-    unfolding coreOn
-    core-named = sub-trans (rw (shown .members) (core-sub (spanNeighbours n ws (c .first) (c .last)) base (c .order))) (r .named)
-
+    -- it meets the thresholds
     core-meets : meets least c ≡ true
     core-meets = of-kept least (groupsOf n T ws base) i .1
 
@@ -79,8 +71,9 @@ module _ {n T : ℕ} {ws : List ℕ} {base : ℕ} (lent : LentDay n T ws) (r : R
     unfolding circleCount circlesOf
     core-bytes =
         let limits = limits-of (lent .limits) in
-        let small = day-small lent (c .members) core-named in (
-          omega (arith, limits .few, score-has n ws base (c .order) (c .first) (c .last) (group-parts n T ws base (c .order) (c .first) (c .last) (shown .group) .1), score-on-le n ws base 0 (c .first) (c .last)),
+        let shown = of-groups n T ws base c (of-kept least (groupsOf n T ws base) i .0) in
+        let small = core-small lent (r .named) stated c i in (
+          omega (arith, limits .few, group-few n T ws base (c .order) (c .first) (c .last) (shown .rising) (shown .inside) (shown .group)),
           omega (arith, limits .short, shown .rising, shown .inside),
           omega (arith, limits .short, shown .inside),
           omega (arith, circles-few (spanNeighbours n ws (c .first) (c .last)) (c .members) small, size-le capacity (c .members) small),
@@ -88,9 +81,8 @@ module _ {n T : ℕ} {ws : List ℕ} {base : ℕ} (lent : LentDay n T ws) (r : R
 
   -- the cores that are kept make the records of the report
   cores-shown : kept least (circleRecords n ws cores) ≡ shownRecords n T ws base least
-  unfolding shownRecords coreOn
-  cores-shown = kept-enough least n ws (groupsOf n T ws base) (λ c i. let s = of-groups n T ws base c i in
-      day-small lent (c .members) (sub-trans (rw (s .members) (core-sub (spanNeighbours n ws (c .first) (c .last)) base (c .order))) (r .named)))
+  unfolding shownRecords
+  cores-shown = kept-enough least n ws (groupsOf n T ws base) (core-small lent (r .named) (cores-stated lent (r .named)))
 
   -- so many
   total-records : (cs : List SpanCore) → ((c : SpanCore) → Mem c cs → Mem c cores) → total (recordCount n ws least) cs ≡ length (kept least (circleRecords n ws cs))
@@ -230,8 +222,8 @@ module _ {n T : ℕ} {ws : List ℕ} {base : ℕ} {least : Thresholds} {cores : 
         pub written-split : CoreToSplit n T ws (least .members) d circles count buffer
         unfolding circleCount recordCount circleRecords
         written-split = rw (told .0) (record {
-          span = core-span (p .lent) (p .reviewed) least core core-in;
-          named = core-named (p .lent) (p .reviewed) least core core-in;
+          span = core-span (p .lent) (p .reviewed .named) (stated (p .lent) (p .reviewed) least) core core-in;
+          named = core-inside (p .lent) (p .reviewed .named) (stated (p .lent) (p .reviewed) least) core core-in;
           number = told .1;
           many = meets-of least core (core-meets (p .lent) (p .reviewed) least core core-in) .2;
           room = record { room = room };

@@ -48,12 +48,16 @@ module _ (n T : ℕ) (ws : List ℕ) (base : ℕ) where
       let e = List·Memᴰ·eq-of-singleton (g .1) in
       rw e (record { rising = leb-true _ _ (z .0); inside = y .1; group = g .0; members = refl })
 
+  -- no order is above the number of badges
+  pub group-few : (k first last : ℕ) → first ≤ last → last < T → isGroup n T ws base k first last ≡ true → k ≤ n
+  group-few k first last m w g = omega (arith, group-of n T ws base first last m w k g .0, score-on-le n ws base 0 first last)
+
   pub in-groups : (k first last : ℕ) → first ≤ last → last < T → isGroup n T ws base k first last ≡ true
       → Mem (record { order = k; first = first; last = last; members = coreOn n ws base k first last }) (groupsOf n T ws base)
   unfolding groupsOf groupsFrom groupsOn
   in-groups k first last m w g =
       in-concat T (groupsFrom n T ws base) first (omega arith)
-      (in-concat T _ last w (in-keep _ _ (le-leb _ _ m) (in-concat (suc n) _ k (suc-le-suc (omega (arith, group-of n T ws base first last m w k g .0, score-on-le n ws base 0 first last))) (in-keep _ _ g (List·Memᴰ·head refl)))))
+      (in-concat T _ last w (in-keep _ _ (le-leb _ _ m) (in-concat (suc n) _ k (suc-le-suc (group-few k first last m w g)) (in-keep _ _ g (List·Memᴰ·head refl)))))
 
 -- a core of order k is there on a span of the day exactly when some set of order k is; it is such a set and holds every other
 module _ {n T : ℕ} {ws : List ℕ} {base first last : ℕ} (d : SpanOfDay n T ws first last) (r : Sub base (full n)) (k : ℕ) where

@@ -32,7 +32,7 @@ pub has-score : (n : ℕ) (ws : List ℕ) (base k first last : ℕ) → 1 ≤ k 
 unfolding hasCore coreOn scoreOn
 has-score n ws base k first last l h = lt-ltb _ _ (contains-of _ _ 0 k (score-of (spanNeighbours n ws first last) base 0 k l h) .0)
 
-pub score-has : (n : ℕ) (ws : List ℕ) (base k first last : ℕ) → hasCore n ws base k first last ≡ true → k ≤ scoreOn n ws base 0 first last
+score-has : (n : ℕ) (ws : List ℕ) (base k first last : ℕ) → hasCore n ws base k first last ≡ true → k ≤ scoreOn n ws base 0 first last
 unfolding hasCore coreOn scoreOn
 score-has n ws base k first last e = score-in (spanNeighbours n ws first last) base 0 k (contains-in _ _ 0 k (ltb-true _ _ e) (none-sub _))
 

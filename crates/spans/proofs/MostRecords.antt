@@ -28,10 +28,10 @@ use Rattle.spans.specs.CoreStatement.{CoreStatement}
 use Rattle.spans.specs.Encoding.{circlesUpTo, mostRecords, maxRecords, maxReportBytes, reportBytes, reportRecords}
 use Rattle.spans.proofs.OrderSets.{order-cohesive}
 use Rattle.spans.proofs.SpanCircles.{span-symmetric, span-irreflexive}
-use Rattle.spans.proofs.Maximal.{score-has, score-on-le, maximal-of}
+use Rattle.spans.proofs.Maximal.{maximal-of}
 use Rattle.spans.proofs.KeptRecords.{kept-le}
 use Rattle.spans.proofs.GroupOrder.{Earlier, first-rises, last-rises, of-line, line-earlier}
-use Rattle.spans.proofs.GroupLists.{Shown, of-groups, group-parts, cores-stated}
+use Rattle.spans.proofs.GroupLists.{Shown, of-groups, group-few, group-parts, cores-stated}
 use Rattle.spans.proofs.RecordLists.{circle-records-concat}
 use Rattle.spans.proofs.CircleStated.{core-span, core-inside, core-small, report-stated}
 use Rattle.spans.proofs.StatedRecords.{records-small}
@@ -125,7 +125,7 @@ module _ {n T : ℕ} {ws : List ℕ} {base : ℕ} (lent : LentDay n T ws) (r : S
   line-records first l = falling-few n ws line
       (pairwise-weaken (λ c d i j e. order-falls c d (shown c i) (shown d j) (omega (arith, of-line n T ws base first c i, of-line n T ws base first d j)) e) (line-earlier n T ws base first))
       (λ c i. core-few lent r (cores-stated lent r) c (in-groups c i)) n
-      (λ c i. let p = group-parts n T ws base (c .order) (c .first) (c .last) (shown c i .group) in le-trans (score-has n ws base (c .order) (c .first) (c .last) (p .1)) (score-on-le n ws base 0 (c .first) (c .last)))
+      (λ c i. let x = shown c i in group-few n T ws base (c .order) (c .first) (c .last) (x .rising) (x .inside) (x .group))
     where
       line : List SpanCore
       line = groupsFrom n T ws base first

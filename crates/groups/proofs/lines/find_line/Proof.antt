@@ -1,16 +1,17 @@
 -- `find_line` meets its contract: at the turn of a last tick the spans that end before it have been found.
-use mathlib.Core.Path.{sym, _∙_}
-use Prim.Native.Nat.{_-_, _*_, _<_}
+use mathlib.Core.Path.{_≡_, sym, _∙_}
+use Prim.Native.Nat.{ℕ, _-_, _*_, _<_}
 use native.Mathlib.Omega.{arith}
 use lib.ListN.{length, getD}
 use borrow.Author.Needs.{needs}
 use Rattle.sets.specs.Members.{members}
+use Rattle.records.specs.Limits.{maxTicks}
 use Rattle.records.proofs.WithinLimits.{limits-of}
 use Rattle.checks.proofs.TickRows.{unites}
 use Rattle.innermost.proofs.Columns.{symmetric-highest}
 use Rattle.groups.proofs.Narrowing.{empty-zeros, going-start, going-size}
 use Rattle.groups.proofs.RowCores.{rows-symmetric, united-sub}
-use Rattle.groups.proofs.LineLoops.{CoreAsked, bounds-meet, core-found, Finding, first-span, finding-start, finding-asks, place-orders, place-members, place-circles, place-large, at-none, finding-next, finding-end}
+use Rattle.groups.proofs.LineLoops.{CoreAsked, bounds-meet, core-found, Finding, first-span, finding-start, finding-asks, place-orders, place-table, at-none, finding-next, finding-end}
 use Rattle.groups.proofs.lines.find_line.Statement.{statement}
 use Rattle.groups.proofs.lines.find_line.Tie as tie
 
@@ -37,20 +38,10 @@ at-orders i =
     let p = i .before .before .before .before .before .before .before .before .before .pre in
     place-orders (p .0) (p .1) (p .2) (p .3) (i .before .loop .inv) (i .loop-test .taken)
 
-at-cores : (i : Turn) → i .before .loop .last < length (i .before .loop .cores)
-at-cores i =
+at-table : (i : Turn) {size : ℕ} → size ≡ maxTicks → i .before .loop .last < size
+at-table i e =
     let p = i .before .before .before .before .before .before .before .before .before .pre in
-    place-members (p .0) (p .1) (p .2) (p .3) (i .before .loop .inv) (i .loop-test .taken)
-
-at-circles : (i : Turn) → i .before .loop .last < length (i .before .loop .circles)
-at-circles i =
-    let p = i .before .before .before .before .before .before .before .before .before .pre in
-    place-circles (p .0) (p .1) (p .2) (p .3) (i .before .loop .inv) (i .loop-test .taken)
-
-at-large : (i : Turn) → i .before .loop .last < length (i .before .loop .large)
-at-large i =
-    let p = i .before .before .before .before .before .before .before .before .before .pre in
-    place-large (p .0) (p .1) (p .2) (p .3) (i .before .loop .inv) (i .loop-test .taken)
+    place-table (p .0) (p .1) (p .2) (p .3) (i .before .loop .inv) (i .loop-test .taken) e
 
 -- no tick is large
 small : (i : Turn) → i .before .loop .last * 8 < 1000
@@ -72,7 +63,7 @@ mul-cores : tie.Need-mul-cores Inv-loop μ-loop
 mul-cores c = omega (arith, small (c .before .before))
 
 slice-write-cores : tie.Need-slice-write-cores Inv-loop μ-loop
-slice-write-cores c = at-cores (c .before .before)
+slice-write-cores c = let i = c .before .before in at-table i (i .before .loop .inv .found .members-size)
 
 add-last : tie.Need-add-last Inv-loop μ-loop
 add-last c = search needs
@@ -115,10 +106,13 @@ mul-cores-2 : tie.Need-mul-cores-2 Inv-loop μ-loop
 mul-cores-2 c = omega (arith, small (turn (c .before)))
 
 slice-write-cores-2 : tie.Need-slice-write-cores-2 Inv-loop μ-loop
-slice-write-cores-2 c = at-cores (turn (c .before))
+slice-write-cores-2 c = let i = turn (c .before) in at-table i (i .before .loop .inv .found .members-size)
 
 count-core-requires : tie.Need-count-core-requires Inv-loop μ-loop
-count-core-requires c κs = let i = turn (c .before .before .before .before) in (at-circles i, at-large i)
+count-core-requires c κs =
+    let i = turn (c .before .before .before .before) in
+    let f = i .before .loop .inv .found in
+    (at-table i (f .circles-size), at-table i (f .large-size))
 
 add-last-2 : tie.Need-add-last-2 Inv-loop μ-loop
 add-last-2 c = omega (arith, small (turn (c .before .before .before .before .before .before .before .before .before)))
