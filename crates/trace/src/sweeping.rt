@@ -1,0 +1,88 @@
+// The sweep over the ticks of a day, from the start tick on, into the bytes of the trace.
+ghost use mathlib.Core.Path.{_≡_};
+ghost use Prim.Native.Nat.{_+_, _≤_, _<_};
+ghost use lib.ListN.{length, getD, replicate};
+ghost use Rattle.sets.specs.Sets.{intersection};
+ghost use Rattle.sets.specs.Members.{capacity, members};
+ghost use Rattle.chains.specs.Traces.{never};
+ghost use Rattle.chains.specs.Sweep.{traceBytes};
+ghost use Rattle.chains.specs.Judging.{StartOfDay};
+ghost use Rattle.trace.specs.Steps.{shown, reachedBy, PassedTick};
+use sets::BadgeSet;
+
+// What the trace says of a badge that nobody reaches, twice: no tick, and no source.
+const NONE: u8 = 255;
+
+// Nobody is reached.
+fn clear(trace: &mut [u8])
+    ensures { λ _. ⌜ now (trace .exit) ≡ replicate (length (now (trace .entry))) never ⌝ }
+{
+    for i in 0..trace.len() {
+        trace[i] = NONE;
+    }
+}
+
+// The turn of a badge that was not reached before tick t, with those in contact with it: where some of them pass on it is reached, and gets the tick, and
+// the smallest of these as its source. Gives the set of those reached, with it.
+fn reach(
+    trace: &mut [u8],
+    n: usize,
+    u: usize,
+    t: u8,
+    row: BadgeSet,
+    passing: BadgeSet,
+    reached: BadgeSet,
+) -> BadgeSet
+    requires { ⌜ (u < n) × (n ≤ capacity) × (length (now trace) ≡ n + n) ⌝ }
+    ensures reached { λ r. ⌜ members r ≡ reachedBy (intersection (members row) (members passing)) (members reached) u ⌝ }
+    ensures leaves { λ _. ⌜ now (trace .exit) ≡ shown n (intersection (members row) (members passing)) u t (now (trace .entry)) ⌝ }
+{
+    let sources = row.intersection(passing);
+    if sources.is_empty() {
+        return reached;
+    }
+    trace[u] = t;
+    trace[n + u] = sources.smallest() as u8;
+    reached.with(u)
+}
+
+// Sweeps over tick t, whose words these are: looks at each badge that was not reached before, and gives those that may pass on in the next tick.
+fn pass_tick(trace: &mut [u8], tick: &[u64], t: u8, passing: BadgeSet) -> BadgeSet
+    requires { ⌜ (length (now tick) ≤ capacity) × (length (now trace) ≡ length (now tick) + length (now tick)) ⌝ }
+    ensures { λ r. ⌜ PassedTick (length (now (tick .entry))) (λ u. getD (now (tick .entry)) u 0) t (members passing) (members r) (now (trace .entry)) (now (trace .exit)) ⌝ }
+{
+    let n = tick.len();
+    let mut reached = passing;
+    let mut unseen = BadgeSet::full(n).difference(passing);
+    while !unseen.is_empty() {
+        let u = unseen.smallest();
+        let row = BadgeSet::from_word(tick[u]);
+        let next = reach(trace, n, u, t, row, passing, reached);
+        reached = next;
+        let rest = unseen.rest();
+        unseen = rest;
+    }
+    reached
+}
+
+// Puts the trace from the index and the start tick on into its bytes: before the start tick the index alone may pass on.
+pub(crate) fn sweep(
+    trace: &mut [u8],
+    words: &[u64],
+    n: usize,
+    ticks: usize,
+    index: usize,
+    start: usize,
+)
+    requires { ⌜ StartOfDay n ticks (now words) index start × (length (now trace) ≡ n + n) ⌝ }
+    ensures { λ _. ⌜ now (trace .exit) ≡ traceBytes n ticks (now (words .entry)) index start ⌝ }
+{
+    clear(trace);
+    trace[index] = start as u8;
+    let mut passing = BadgeSet::EMPTY.with(index);
+    for t in start..ticks {
+        let base = t * n;
+        let next = pass_tick(trace, &words[base..base + n], t as u8, passing);
+        passing = next;
+    }
+}
