@@ -33,6 +33,7 @@ use Rattle.log.specs.Tidy.{tidyContacts}
 use Rattle.log.specs.Buffers.{Delivered}
 use Rattle.thresholds.specs.declared.Thresholds.{Thresholds}
 use Rattle.thresholds.specs.Ranges.{inRange}
+use Rattle.trace.specs.Tracing.{Traces}
 use Rattle.spans.specs.Spans.{SpanOfDay}
 use Rattle.spans.specs.Reviews.{Review}
 use Rattle.spans.specs.SpanCores.{SpanCore}
@@ -249,7 +250,11 @@ module _ (logs lengths : List ℕ) (q n T : ℕ) (words work : List ℕ) (e : jo
   pub joined-passes : checkOf n T (joinOf logs lengths q words work .words) ≡ success tt
   joined-passes = let d = joined-lent-day in check-day n T _ (d .limits) (d .enough) (d .day)
 
-  -- and what is promised of days holds of it: lent enough, core numbers, the report and the plan succeed,
+  -- and what is promised of days holds of it: lent enough, the trace, core numbers, the report and the plan succeed,
+  pub joined-trace : (call : ℕ → ℕ → List ℕ → ℕ → ℕ → List ℕ → Delivered) (bytes : ℕ → ℕ → List ℕ → ℕ → ℕ → List ℕ) → Traces call bytes → (index s : ℕ) (buffer : List ℕ) → index < n → s < T → n + n ≤ length buffer
+      → call n T (joinOf logs lengths q words work .words) index s buffer .answer ≡ success (n + n)
+  joined-trace call bytes p index s buffer i k h = ap (λ (y : Delivered). y .answer) (p .succeeds n T _ index s buffer (record { lent = joined-lent-day; badge = i; tick = k }) h)
+
   pub joined-numbers : (call : ℕ → ℕ → List ℕ → ℕ → ℕ → ℕ → List ℕ → Delivered) → GivesCoreNumbers call → (base first last : ℕ) (buffer : List ℕ) → Review n base → first ≤ last → last < T → n ≤ length buffer
       → call n T (joinOf logs lengths q words work .words) base first last buffer .answer ≡ success n
   joined-numbers call p base first last buffer v r i h =

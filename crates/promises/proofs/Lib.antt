@@ -34,3 +34,6 @@ pub mod Quorums
 pub mod JoinTheorems
 pub mod JoinLaws
 pub mod JoinSubstitutes
+-- the trace: what its promise comes to, and substitutes
+pub mod TraceTheorems
+pub mod TraceSubstitutes

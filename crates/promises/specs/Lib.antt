@@ -11,3 +11,5 @@ pub mod D1
 pub mod Ties
 -- what a report by circles is held against
 pub mod Circles
+-- the trace of a log, and what a trace is held against
+pub mod Tracing
