@@ -3,6 +3,7 @@ ghost use mathlib.Core.Path.{_≡_};
 ghost use Rattle.records.specs.Verdicts.{verdictOutcome};
 ghost use Rattle.receivers.specs.Refusals as receivers;
 ghost use Rattle.log.specs.Calls as log;
+ghost use Rattle.trace.specs.Refusals as trace;
 ghost use Rattle.groups.specs.Refusals as groups;
 ghost use Rattle.ward.specs.Answers.{refusedAnswer, readAnswer, joinAnswer, writtenAnswer};
 
@@ -44,6 +45,16 @@ pub(crate) fn log_answer(written: log::Written) -> [u64; 5]
     match written {
         log::Written::Refused(refusal) => refused(refusal.number(), refusal.offset()),
         log::Written::Bytes(count) => [0, 0, 0, 0, count as u64],
+    }
+}
+
+// What the trace answered.
+pub(crate) fn trace_answer(written: trace::Written) -> [u64; 5]
+    ensures { λ r. ⌜ r ≡ writtenAnswer (trace.writtenOutcome written) ⌝ }
+{
+    match written {
+        trace::Written::Refused(refusal) => refused(refusal.number(), refusal.offset()),
+        trace::Written::Bytes(count) => [0, 0, 0, 0, count as u64],
     }
 }
 

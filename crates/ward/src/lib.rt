@@ -6,6 +6,8 @@ ghost use mathlib.Core.Path.{_≡_};
 ghost use Rattle.days.specs.Calls.{readOf};
 ghost use Rattle.receivers.specs.Joining.{joinOf};
 ghost use Rattle.log.specs.Calls.{tidyOf, writeOf};
+ghost use Rattle.trace.specs.Calls.{traceOf};
+ghost use Rattle.trace.specs.Tracing.{Traced};
 ghost use Rattle.thresholds.specs.Ranges.{leastOf};
 ghost use Rattle.groups.specs.Calls.{coreNumbersOf, reportOf, planOf};
 ghost use Rattle.groups.specs.GroupReports.{Reported};
@@ -15,6 +17,7 @@ use answers::group_answer;
 use answers::join_answer;
 use answers::log_answer;
 use answers::read_answer;
+use answers::trace_answer;
 use groups::Thresholds;
 use sets::BadgeSet;
 
@@ -71,6 +74,25 @@ pub extern "C" fn ward_write(
 {
     let written = log::write(words, badges, ticks, out);
     *answer = log_answer(written);
+}
+
+// trace::trace.
+#[no_mangle]
+pub extern "C" fn ward_trace(
+    words: &[u64],
+    badges: usize,
+    ticks: usize,
+    index: usize,
+    start: usize,
+    out: &mut [u8],
+    answer: &mut [u64; 5],
+)
+    ensures answer { λ _. ⌜ now (answer .exit) ≡ writtenAnswer (traceOf badges ticks (now (words .entry)) index start (now (out .entry)) .answer) ⌝ }
+    ensures leaves { λ _. ⌜ now (out .exit) ≡ traceOf badges ticks (now (words .entry)) index start (now (out .entry)) .buffer ⌝ }
+    ensures trace { λ _. ⌜ Traced badges ticks (now (words .entry)) index start (traceOf badges ticks (now (words .entry)) index start (now (out .entry)) .answer) (now (out .exit)) ⌝ }
+{
+    let written = trace::trace(words, badges, ticks, index, start, out);
+    *answer = trace_answer(written);
 }
 
 // groups::core_numbers: the badges under review are a set, bit u for badge u.
