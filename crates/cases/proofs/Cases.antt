@@ -130,6 +130,8 @@ example-holds =
     then refl
     then refl
     then refl
+    then refl
+    then refl
     then none
 
 pub requested-holds : AllHold requested
@@ -238,6 +240,24 @@ requested-holds =
     then refl
     then refl
     -- under review, in the listing, in a plan, and core numbers
+    then refl
+    then refl
+    then refl
+    then refl
+    -- the trace: ticks and sources
+    then refl
+    then refl
+    then refl
+    then refl
+    then refl
+    then refl
+    then refl
+    then refl
+    then refl
+    -- 22, its place, and 9
+    then refl
+    then refl
+    then refl
     then refl
     then refl
     then refl

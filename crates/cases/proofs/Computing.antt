@@ -1,9 +1,9 @@
 -- All definitions that the rows of the tables compute with, under one name.
 use Prim.Native.Nat.{ℕ}
 use Rattle.sets.specs.Bools.{_and_, _or_, isnt, all}
-use Rattle.sets.specs.Sets.{bit, isSub, intersection, difference, setOf, full, filterIn, filter, sizeIn, size, smallest}
+use Rattle.sets.specs.Sets.{bit, isSub, intersection, union, difference, only, setOf, full, filterIn, filter, sizeIn, size, smallest}
 use Rattle.sets.specs.Bytes.{littleEndian, fromLittleEndian}
-use Rattle.sets.specs.Tables.{tabulate, concatBelow, keepIf}
+use Rattle.sets.specs.Tables.{tabulate, concatBelow, keepIf, piecewise}
 use Rattle.records.specs.Limits.{withinLimits}
 use Rattle.records.specs.Records.{fieldsOf, encode, encodeAll, isMark, markFrom, recordFrom, decodeMarked, decode}
 use Rattle.records.specs.Outcomes.{refuseIf, andThen}
@@ -18,6 +18,9 @@ use Rattle.receivers.specs.Joining.{sum, joinable, judgeJoin, heardBy, quorum, 
 use Rattle.log.specs.Tidy.{runStart, runEnds, runAt, runsOf, rowRuns, tidyContacts, tidyLog}
 use Rattle.log.specs.Buffers.{deliver}
 use Rattle.log.specs.Calls.{writeJudged, writeOf, tidyBefore9, tidyOf}
+use Rattle.chains.specs.Sweep.{overlap, spread, sourceFrom, ticksFirst, passing, newly, tickAfter, sourceAfter, traceBytes}
+use Rattle.chains.specs.Judging.{isStart, startJudged, traceJudged}
+use Rattle.trace.specs.Calls.{traceOf}
 use Rattle.cores.specs.Graphs.{degree}
 use Rattle.cores.specs.Cores.{strip, strips, core}
 use Rattle.cores.specs.Orders.{largest, coreNumber, contains, score}
@@ -40,6 +43,7 @@ use Rattle.text.specs.Listing.{field, headLine, memberList, groupLine, refusalL
 use Rattle.promises.specs.D1.{badges, d1Words}
 use Rattle.promises.specs.Ties.{tiesWords}
 use Rattle.promises.specs.Circles.{apartWords, leavingWords, crossingWords}
+use Rattle.promises.specs.Tracing.{risingWords, fallingWords, atOnceWords, twoSourcesWords}
 use Rattle.cases.specs.RecordBytes.{BH, CT, ED, RH, GR, PH, PT}
 use Rattle.cases.specs.Rows.{Holds}
 use Rattle.cases.specs.Table.{sevens, d1Log, d1Variant, d1Report, changingLog, changingWords, emptyLog, emptyWords, equalBadges, starred}
@@ -49,7 +53,7 @@ use Rattle.cases.specs.Requests.{triple, couple, nobody, without2, witho
 
 -- sets and lists
 sets-computing : ℕ
-unfolding _and_ _or_ isnt all bit isSub intersection difference setOf full filterIn filter sizeIn size smallest littleEndian fromLittleEndian tabulate concatBelow keepIf
+unfolding _and_ _or_ isnt all bit isSub intersection union difference only setOf full filterIn filter sizeIn size smallest littleEndian fromLittleEndian tabulate concatBelow keepIf piecewise
 sets-computing = 0
 
 -- records, judging a log, days, tidy logs and the calls of the log part
@@ -57,9 +61,14 @@ log-computing : ℕ
 unfolding sets-computing withinLimits fieldsOf encode encodeAll isMark markFrom recordFrom decodeMarked decode refuseIf andThen validContact judgeKind judgeValues judgeDecoded judgeRecord prepend judgeIn judgeFrom judge badgesOf ticksOf contactsOf covers inContact valuesOf logRecords neighbours adjacent tickWords dayWords dayOf isTick isDay runStart runEnds runAt runsOf rowRuns tidyContacts tidyLog deliver readJudged readOf checkOf parts judgeLogs badgesIn ticksIn haveSize judgeSeries commonSize sum joinable judgeJoin heardBy quorum joinedDay joinJudged joinOf writeJudged writeOf tidyBefore9 tidyOf
 log-computing = 0
 
+-- the trace
+trace-computing : ℕ
+unfolding log-computing overlap spread sourceFrom ticksFirst passing newly tickAfter sourceAfter traceBytes isStart startJudged traceJudged traceOf
+trace-computing = 0
+
 -- cores, cuttings, and the calls of the group part
 groups-computing : ℕ
-unfolding log-computing degree strip strips core reaches grow grows circle firstCircle circlesIn circles largest coreNumber contains score firstGreatest sumWith bestSum endAfter endsFrom bestEnds isSpan throughout spanNeighbours coreOn hasCore asLarge same isMaximal isGroup groupsOn groupsFrom groupsOf inRange areEnough meets kept circlesOf recordsOf circleRecords shownRecords scoreOn membersOn partOn partsFrom partsOf isReview isQuery isReviewedQuery isParts sumOfOrders encodeCore encodeCores reportBytes planBytes reviewOf coreNumberBytes spanJudged coreNumbersOf reportJudged reportOf planJudged planOf
+unfolding trace-computing degree strip strips core reaches grow grows circle firstCircle circlesIn circles largest coreNumber contains score firstGreatest sumWith bestSum endAfter endsFrom bestEnds isSpan throughout spanNeighbours coreOn hasCore asLarge same isMaximal isGroup groupsOn groupsFrom groupsOf inRange areEnough meets kept circlesOf recordsOf circleRecords shownRecords scoreOn membersOn partOn partsFrom partsOf isReview isQuery isReviewedQuery isParts sumOfOrders encodeCore encodeCores reportBytes planBytes reviewOf coreNumberBytes spanJudged coreNumbersOf reportJudged reportOf planJudged planOf
 groups-computing = 0
 
 -- the listing
@@ -69,5 +78,5 @@ text-computing = 0
 
 -- the tables
 unfoldable pub computing : ℕ
-unfolding text-computing badges tiesWords apartWords leavingWords crossingWords BH CT ED RH GR PH PT Holds sevens d1Log d1Words d1Variant d1Report changingLog changingWords emptyLog emptyWords equalBadges starred nestedLog nestedWords further exampleLog exampleWords exampleTidy eastLog westLog bothWords example triple couple nobody without2 without3 missing missingWords repeating repeatingWords fourTicks cliqueWords ringWords aroundWords requested
+unfolding text-computing badges tiesWords apartWords leavingWords crossingWords risingWords fallingWords atOnceWords twoSourcesWords BH CT ED RH GR PH PT Holds sevens d1Log d1Words d1Variant d1Report changingLog changingWords emptyLog emptyWords equalBadges starred nestedLog nestedWords further exampleLog exampleWords exampleTidy eastLog westLog bothWords example triple couple nobody without2 without3 missing missingWords repeating repeatingWords fourTicks cliqueWords ringWords aroundWords requested
 computing = 0

@@ -4,10 +4,11 @@ use Prim.Native.Nat.{ℕ}
 use lib.ListN.{replicate}
 use Rattle.sets.specs.Sets.{full}
 use Rattle.records.specs.Outcomes.{success}
+use Rattle.chains.specs.Traces.{never, noSource}
 use Rattle.thresholds.specs.Ranges.{leastOf, plain}
 use Rattle.promises.specs.D1.{badges}
 use Rattle.cases.specs.RecordBytes.{BH, CT, ED, RH, GR, PH, PT}
-use Rattle.cases.specs.Rows.{Row, read, join, tidy, core-numbers, report, plan, plan-sum, plan-ends, cut-sum, listing, length-of}
+use Rattle.cases.specs.Rows.{Row, read, join, tidy, trace, core-numbers, report, plan, plan-sum, plan-ends, cut-sum, listing, length-of}
 use Rattle.cases.specs.Table.{sevens, accepted, sized}
 
 -- five badges, four ticks, in arrival order: 2–0 in ticks 0 to 1, 0–1 in ticks 0 to 2, 1–2 in ticks 0 to 1 and, from the other side, in
@@ -62,6 +63,9 @@ example =
     ∷ plan-ends 5 4 exampleWords (full 5) (badges (1 ∷ [])) 2 (0 ∷ 3 ∷ [])
     ∷ cut-sum 5 exampleWords (full 5) (badges (1 ∷ [])) (0 ∷ 3 ∷ []) 2
     ∷ cut-sum 5 exampleWords (full 5) (badges (1 ∷ [])) (1 ∷ 3 ∷ []) 2
+    -- whom badge 0 can have reached from tick 2 on, and from tick 0 on
+    ∷ trace 5 4 exampleWords 0 2 (sevens 10) (success 10) ((2 ∷ 2 ∷ never ∷ never ∷ never ∷ []) ++ (noSource ∷ 0 ∷ noSource ∷ noSource ∷ noSource ∷ []))
+    ∷ trace 5 4 exampleWords 0 0 (sevens 10) (success 10) ((0 ∷ 0 ∷ 0 ∷ never ∷ never ∷ []) ++ (noSource ∷ 0 ∷ 0 ∷ noSource ∷ noSource ∷ []))
     -- two receivers: what one of them heard is the day above; what both heard, and its groups
     ∷ length-of eastLog 40
     ∷ length-of westLog 34

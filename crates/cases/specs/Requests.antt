@@ -4,12 +4,14 @@ use Prim.Native.Nat.{ℕ}
 use lib.ListN.{replicate}
 use Rattle.sets.specs.Sets.{full}
 use Rattle.records.specs.Outcomes.{refused, success}
+use Rattle.chains.specs.Traces.{never, noSource}
 use Rattle.thresholds.specs.Ranges.{plain, leastOf}
 use Rattle.promises.specs.D1.{badges, d1Words}
 use Rattle.promises.specs.Ties.{tiesWords}
 use Rattle.promises.specs.Circles.{apartWords, leavingWords, crossingWords}
+use Rattle.promises.specs.Tracing.{risingWords, fallingWords, atOnceWords, twoSourcesWords}
 use Rattle.cases.specs.RecordBytes.{BH, CT, ED, RH, GR, PH, PT}
-use Rattle.cases.specs.Rows.{Row, join, tidy, core-numbers, report, plan, plan-ends, cut-sum, listing, length-of}
+use Rattle.cases.specs.Rows.{Row, join, tidy, trace, core-numbers, report, plan, plan-ends, cut-sum, listing, length-of}
 use Rattle.cases.specs.Table.{sevens, sized, d1Log, emptyLog, emptyWords, equalBadges}
 
 -- reports of D1 that keep one of its two groups, "order 2, 0 to 1, {0,1,2}" and "order 1, 0 to 2, {2,3}", and none
@@ -195,4 +197,27 @@ requested =
     -- "Members in plans are not split", and core numbers are those of the cores
     ∷ plan 6 1 apartWords (full 6) (badges (0 ∷ [])) 1 (sevens 32) (success 32) (PH 6 1 1 (badges (0 ∷ [])) ++ PT 2 0 0 (full 6) ++ ED 1)
     ∷ core-numbers 6 1 apartWords (full 6) 0 0 (sevens 6) (success 6) (replicate 6 2)
+    -- "Eight. .. it finds for each badge the earliest tick in which it can have been reached, and 255 if never; the index has s": D1 from badge 3 in tick 0 and
+    -- in tick 2, and from badge 0 in tick 1; "ticks first", then the sources
+    ∷ trace 4 3 d1Words 3 0 (sevens 8) (success 8) ((1 ∷ 1 ∷ 0 ∷ 0 ∷ []) ++ (2 ∷ 2 ∷ 3 ∷ noSource ∷ []))
+    ∷ trace 4 3 d1Words 3 2 (sevens 8) (success 8) ((never ∷ never ∷ 2 ∷ 2 ∷ []) ++ (noSource ∷ noSource ∷ 3 ∷ noSource ∷ []))
+    ∷ trace 4 3 d1Words 0 1 (sevens 9) (success 8) ((1 ∷ 1 ∷ 1 ∷ 2 ∷ []) ++ (noSource ∷ 0 ∷ 0 ∷ 2 ∷ []) ++ 7 ∷ [])
+    -- "contacts in strictly rising ticks": a path met in falling ticks, in rising ticks, and all at once
+    ∷ trace 4 3 fallingWords 0 0 (sevens 8) (success 8) ((0 ∷ 2 ∷ never ∷ never ∷ []) ++ (noSource ∷ 0 ∷ noSource ∷ noSource ∷ []))
+    ∷ trace 4 3 risingWords 0 0 (sevens 8) (success 8) ((0 ∷ 0 ∷ 1 ∷ 2 ∷ []) ++ (noSource ∷ 0 ∷ 1 ∷ 2 ∷ []))
+    ∷ trace 4 3 atOnceWords 0 0 (sevens 8) (success 8) ((0 ∷ 0 ∷ never ∷ never ∷ []) ++ (noSource ∷ 0 ∷ noSource ∷ noSource ∷ []))
+    -- "the first in s or later": the path's first contact is over
+    ∷ trace 4 3 risingWords 0 1 (sevens 8) (success 8) ((1 ∷ never ∷ never ∷ never ∷ []) ++ (noSource ∷ noSource ∷ noSource ∷ noSource ∷ []))
+    -- "the smallest badge in contact with it in that tick that may pass on by then": 1 and 2 may; and from badge 3 in tick 1 both are reached from 3, too late for 0
+    ∷ trace 4 2 twoSourcesWords 0 0 (sevens 8) (success 8) ((0 ∷ 0 ∷ 0 ∷ 1 ∷ []) ++ (noSource ∷ 0 ∷ 0 ∷ 1 ∷ []))
+    ∷ trace 4 2 twoSourcesWords 3 1 (sevens 8) (success 8) ((never ∷ 1 ∷ 1 ∷ 1 ∷ []) ++ (noSource ∷ 3 ∷ 3 ∷ noSource ∷ []))
+    -- "22, index of n or more or s of T or more, after 11 and before 9"
+    ∷ trace 4 3 d1Words 4 0 (sevens 8) (refused 22 0) (sevens 8)
+    ∷ trace 4 3 d1Words 3 3 (sevens 8) (refused 22 0) (sevens 8)
+    ∷ trace 4 3 d1Words 4 3 (sevens 7) (refused 22 0) (sevens 7)
+    ∷ trace 4 3 (sevens 12) 4 3 (sevens 7) (refused 11 0) (sevens 7)
+    ∷ trace 4 3 (sevens 11) 4 3 (sevens 7) (refused 8 0) (sevens 7)
+    ∷ trace 4 0 [] 4 3 (sevens 7) (refused 10 0) (sevens 7)
+    -- 9 below 2n bytes
+    ∷ trace 4 3 d1Words 3 2 (sevens 7) (refused 9 0) (sevens 7)
     ∷ []

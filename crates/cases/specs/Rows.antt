@@ -10,6 +10,7 @@ use Rattle.days.specs.Calls.{readOf}
 use Rattle.series.specs.Series.{Size}
 use Rattle.receivers.specs.Joining.{joinOf}
 use Rattle.log.specs.Calls.{tidyOf, writeOf}
+use Rattle.trace.specs.Calls.{traceOf}
 use Rattle.thresholds.specs.declared.Thresholds.{Thresholds}
 use Rattle.spans.specs.Plans.{partsFrom, partsOf}
 use Rattle.spans.specs.PlanStatement.{sumOfOrders, partEnds}
@@ -26,6 +27,7 @@ pub data Row : Type 0 where
   join : (logs lengths : List ℕ) (q : ℕ) (words work : List ℕ) (answer : Outcome Size) (words′ work′ : List ℕ) → Row
   tidy : (log words buffer : List ℕ) (answer : Outcome ℕ) (words′ buffer′ : List ℕ) → Row
   write : (n T : ℕ) (words buffer : List ℕ) (answer : Outcome ℕ) (buffer′ : List ℕ) → Row
+  trace : (n T : ℕ) (words : List ℕ) (index s : ℕ) (buffer : List ℕ) (answer : Outcome ℕ) (buffer′ : List ℕ) → Row
   core-numbers : (n T : ℕ) (words : List ℕ) (review first last : ℕ) (buffer : List ℕ) (answer : Outcome ℕ) (buffer′ : List ℕ) → Row
   report : (n T : ℕ) (words : List ℕ) (review : ℕ) (least : Thresholds) (buffer : List ℕ) (answer : Outcome ℕ) (buffer′ : List ℕ) → Row
   plan : (n T : ℕ) (words : List ℕ) (review query h : ℕ) (buffer : List ℕ) (answer : Outcome ℕ) (buffer′ : List ℕ) → Row
@@ -41,6 +43,7 @@ Holds (read log words answer words′) = readOf log words ≡ record { answer = 
 Holds (join logs lengths q words work answer words′ work′) = joinOf logs lengths q words work ≡ record { answer = answer; words = words′; work = work′ }
 Holds (tidy log words buffer answer words′ buffer′) = tidyOf log words buffer ≡ record { answer = answer; words = words′; buffer = buffer′ }
 Holds (write n T words buffer answer buffer′) = writeOf n T words buffer ≡ record { answer = answer; buffer = buffer′ }
+Holds (trace n T words index s buffer answer buffer′) = traceOf n T words index s buffer ≡ record { answer = answer; buffer = buffer′ }
 Holds (core-numbers n T words review first last buffer answer buffer′) = coreNumbersOf n T words review first last buffer ≡ record { answer = answer; buffer = buffer′ }
 Holds (report n T words review least buffer answer buffer′) = reportOf n T words review least buffer ≡ record { answer = answer; buffer = buffer′ }
 Holds (plan n T words review query h buffer answer buffer′) = planOf n T words review query h buffer ≡ record { answer = answer; buffer = buffer′ }
