@@ -11,8 +11,8 @@
  *   - memory that is written overlaps no other memory of the same call;
  *   - `answer` points to five numbers.
  *
- * A call uses the caller's stack, as it was measured (tests/stack-use.sh) and not proved: ward_read and ward_join under 1 KB, ward_core_numbers 2,
- * ward_plan 29, ward_write 49, ward_tidy 49, ward_report 76.
+ * A call uses the caller's stack, as it was measured (tests/stack-use.sh) and not proved: ward_read, ward_join and ward_trace under 1 KB,
+ * ward_core_numbers 2, ward_plan 29, ward_write 49, ward_tidy 49, ward_report 76.
  *
  * Every call writes all five numbers of `answer`. On a refusal the first is its number and the second its byte offset, and the others are
  * 0; a refused call changes nothing else, except that ward_tidy refused by WARD_BUFFER_TOO_SHORT leaves the day in its work words. On
@@ -28,7 +28,7 @@
 extern "C" {
 #endif
 
-/* Sizes that always suffice: words of a day, work words of ward_join, bytes of a log, of a report and of a plan, core numbers of a span.
+/* Sizes that always suffice: words of a day, work words of ward_join, bytes of a log, of a trace, of a report and of a plan, core numbers of a span.
  *
  * A report has a record of 13 bytes for each group, and 10 bytes more. Of each order k it shows at most as many cores as the day has ticks, since
  * none of their spans contains another; and a core's circles, which have a record each, have k + 1 members or more. So
@@ -39,9 +39,13 @@ extern "C" {
 #define WARD_WORDS 6144
 #define WARD_JOIN_WORK_WORDS (4 * WARD_WORDS)
 #define WARD_LOG_BYTES 48010
+#define WARD_TRACE_BYTES 128
 #define WARD_REPORT_BYTES 269578
 #define WARD_PLAN_BYTES 1267
 #define WARD_CORE_NUMBERS 64
+
+/* In a trace: the tick of a badge that is never reached, and the source of a badge that has none. It is neither a tick nor a badge of any day. */
+#define WARD_NONE 255
 
 /* The five numbers of an answer. */
 enum {
@@ -76,7 +80,8 @@ enum {
     WARD_INVALID_RECEIVERS = 18,      /* not 2 to 4 logs, a quorum that is not 1 to their number, or lengths that do not add up to the bytes */
     WARD_DIFFERENT_SHIFTS = 19,       /* the badges or ticks of a log differ from the first log's */
     WARD_INVALID_REVIEW = 20,         /* no badge is under review, or one that the day does not have, whatever others are */
-    WARD_QUERY_NOT_REVIEWED = 21      /* the query has a badge that is not under review */
+    WARD_QUERY_NOT_REVIEWED = 21,     /* the query has a badge that is not under review */
+    WARD_INVALID_START = 22           /* the index is not a badge of the day, or the start not a tick of it */
 };
 
 /* The set of all badges of a day, to review them all: bit u for badge u. 64 badges and more give every bit. */
@@ -101,6 +106,16 @@ void ward_tidy(const uint8_t *log, size_t log_len, uint64_t *work, size_t work_l
 
 /* Writes day words as their tidy log. Refused by 10, 8, 11, 15, 9. */
 void ward_write(const uint64_t *words, size_t words_len, size_t badges, size_t ticks, uint8_t *out, size_t out_len, uint64_t answer[5]);
+
+/* The trace of an exposure: whom the badge `index` can have reached from tick `start` on, when first, and through whom. A chain is a series of
+ * contacts, from the index to a badge, in strictly rising ticks of which the first is start or later: the index passes on in tick start and in every
+ * later one, and every other badge only in ticks after the one in which it was reached. First there is a byte for each badge with its tick, the
+ * earliest in which a chain arrives at it; then a byte for each badge with its source, the smallest badge in contact with it in that tick that passes
+ * on in that tick: the index, or one whose own tick is earlier. The index has the tick start, and the source WARD_NONE, whatever it is in contact
+ * with. A badge at which no chain arrives has WARD_NONE for both, and every other badge has a source. That makes 2 * badges bytes. Refused by 10, 8,
+ * 11, 22, 9. */
+void ward_trace(const uint64_t *words, size_t words_len, size_t badges, size_t ticks, size_t index, size_t start, uint8_t *out, size_t out_len,
+                uint64_t answer[5]);
 
 /* The three calls below take a set of badges under review, with bit u for badge u: they work out cores among these badges alone, as if no other badge
  * had been in contact with anybody. The set has one badge at least, and none that the day does not have. */
