@@ -25,12 +25,17 @@ pub const WORDS: usize = 6144;
 pub const JOIN_WORK_WORDS: usize = 4 * WORDS;
 /// Bytes that hold any log, tidy or not.
 pub const LOG_BYTES: usize = 48010;
+/// Bytes that hold any trace: a tick and a source for each of 64 badges.
+pub const TRACE_BYTES: usize = 128;
 /// Bytes that hold any report: `report_bytes` of 64 badges and 96 ticks. Most reports are much shorter.
 pub const REPORT_BYTES: usize = 269578;
 /// Bytes that hold any plan.
 pub const PLAN_BYTES: usize = 1267;
 /// Bytes that hold the core numbers of any span.
 pub const CORE_NUMBERS: usize = 64;
+
+/// In a trace: the tick of a badge that is never reached, and the source of a badge that has none. It is neither a tick nor a badge of any day.
+pub const NONE: u8 = 255;
 
 /// What `read` found: n, T, and the number of contact records as given.
 #[derive(Clone, Copy, Debug, PartialEq, Eq)]
@@ -125,6 +130,17 @@ extern "C" {
     );
     fn ward_tidy(log: *const u8, log_len: usize, work: *mut u64, work_len: usize, out: *mut u8, out_len: usize, answer: *mut Answer);
     fn ward_write(words: *const u64, words_len: usize, badges: usize, ticks: usize, out: *mut u8, out_len: usize, answer: *mut Answer);
+    fn ward_trace(
+        words: *const u64,
+        words_len: usize,
+        badges: usize,
+        ticks: usize,
+        index: usize,
+        start: usize,
+        out: *mut u8,
+        out_len: usize,
+        answer: *mut Answer,
+    );
     fn ward_core_numbers(
         words: *const u64,
         words_len: usize,
@@ -253,6 +269,54 @@ pub fn tidy(log: &[u8], work: &mut [u64], out: &mut [u8]) -> Result<usize, Refus
 pub fn write(words: &[u64], badges: usize, ticks: usize, out: &mut [u8]) -> Result<usize, Refused> {
     let mut answer = [0; 5];
     unsafe { ward_write(words.as_ptr(), words.len(), badges, ticks, out.as_mut_ptr(), out.len(), &mut answer) };
+    written(answer)
+}
+
+/// Puts the trace of an exposure into a buffer, whom the badge `index` can have reached from tick `start` on, and gives the number of bytes: first
+/// one for each badge with the earliest tick in which a chain arrives at it, then one for each badge with its source. A chain is a series of
+/// contacts, from the index to a badge, in strictly rising ticks of which the first is `start` or later: the index passes on in tick `start` and in
+/// every later one, and every other badge only in ticks after the one in which it was reached. A badge's source is the smallest badge in contact with
+/// it in its tick that passes on in that tick. The index has the tick `start` and the source [`NONE`], whatever it is in contact with; a badge that
+/// is never reached has [`NONE`] for both; and every other badge has a source.
+///
+/// ```
+/// use ward::NONE;
+/// let words = [0b010, 0b001, 0, 0, 0b100, 0b010]; // badges 0 and 1 in contact in tick 0, and badges 1 and 2 in tick 1
+/// let mut trace = [0u8; ward::TRACE_BYTES];
+///
+/// // met in rising ticks: badge 0 reaches badge 1 in tick 0, which reaches badge 2 in tick 1
+/// assert_eq!(ward::trace(&words, 3, 2, 0, 0, &mut trace), Ok(6));
+/// assert_eq!(trace[..6], [0, 0, 1, NONE, 0, 1]);
+///
+/// // met in falling ticks: badge 2 reaches badge 1 in tick 1, which was in contact with badge 0 before that alone
+/// ward::trace(&words, 3, 2, 2, 0, &mut trace)?;
+/// assert_eq!(trace[..6], [NONE, 1, 0, NONE, 2, NONE]);
+///
+/// // both in one tick: nobody but the index passes on in the tick in which it was reached
+/// ward::trace(&[0b010, 0b101, 0b010], 3, 1, 0, 0, &mut trace)?;
+/// assert_eq!(trace[..6], [0, 0, NONE, NONE, 0, NONE]);
+///
+/// let refused = ward::trace(&words, 3, 2, 3, 0, &mut trace).unwrap_err();
+/// assert_eq!(refused.refusal, ward::Refusal::InvalidStart);
+/// assert_eq!(refused.to_string(), "refused 22 at 0: the index is not a badge of the day, or the start not a tick of it");
+/// let refused = ward::trace(&words, 3, 2, 0, 2, &mut []).unwrap_err();
+/// assert_eq!(refused.refusal, ward::Refusal::InvalidStart); // judged before the buffer
+/// # Ok::<(), ward::Refused>(())
+/// ```
+///
+/// ```
+/// // in tick 0 badge 3 is in contact with badges 1 and 2, and in tick 1 badge 0 with both of these: of its two possible sources it shows the smaller
+/// let words = [0, 0b1000, 0b1000, 0b0110, 0b0110, 0b0001, 0b0001, 0];
+/// let mut trace = [0u8; ward::TRACE_BYTES];
+/// let size = ward::trace(&words, 4, 2, 3, 0, &mut trace)?;
+/// let (ticks, sources) = trace[..size].split_at(4);
+/// assert_eq!(ticks, [1, 0, 0, 0]);
+/// assert_eq!(sources, [1, 3, 3, ward::NONE]);
+/// # Ok::<(), ward::Refused>(())
+/// ```
+pub fn trace(words: &[u64], badges: usize, ticks: usize, index: usize, start: usize, out: &mut [u8]) -> Result<usize, Refused> {
+    let mut answer = [0; 5];
+    unsafe { ward_trace(words.as_ptr(), words.len(), badges, ticks, index, start, out.as_mut_ptr(), out.len(), &mut answer) };
     written(answer)
 }
 

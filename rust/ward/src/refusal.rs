@@ -3,16 +3,16 @@
 use std::error::Error;
 use std::fmt;
 
-/// A refusal, in the order of its numbers: 1 to 15, and 17 to 21. 16 is unused, and no refusal will ever get it.
+/// A refusal, in the order of its numbers: 1 to 15, and 17 to 22. 16 is unused, and no refusal will ever get it.
 ///
 /// ```
 /// use ward::Refusal;
 /// assert_eq!(Refusal::NotADay.number(), 11);
 /// assert_eq!(Refusal::from_number(11), Some(Refusal::NotADay));
-/// for number in (1..=15).chain(17..=21) {
+/// for number in (1..=15).chain(17..=22) {
 ///     assert_eq!(Refusal::from_number(number).map(|refusal| refusal.number() as u64), Some(number));
 /// }
-/// assert_eq!([0, 16, 22].map(Refusal::from_number), [None; 3]);
+/// assert_eq!([0, 16, 23].map(Refusal::from_number), [None; 3]);
 /// ```
 #[derive(Clone, Copy, Debug, PartialEq, Eq)]
 pub enum Refusal {
@@ -36,11 +36,12 @@ pub enum Refusal {
     DifferentShifts,
     InvalidReview,
     QueryNotReviewed,
+    InvalidStart,
 }
 
 use Refusal::*;
 
-const ALL: [(Refusal, &str); 20] = [
+const ALL: [(Refusal, &str); 21] = [
     (CutShort, "the bytes end inside a record, or where one must start"),
     (WrongMark, "the mark is not that of a record that may stand there"),
     (HeaderOutOfLimits, "badges not 1 to 64, or ticks not 1 to 96"),
@@ -61,10 +62,11 @@ const ALL: [(Refusal, &str); 20] = [
     (DifferentShifts, "the badges or ticks of a log differ from the first log's"),
     (InvalidReview, "no badge is under review, or one that the day does not have"),
     (QueryNotReviewed, "the query has a badge that is not under review"),
+    (InvalidStart, "the index is not a badge of the day, or the start not a tick of it"),
 ];
 
 impl Refusal {
-    /// The refusal of a number; none for 0, which is success, for 16, and for a number above 21.
+    /// The refusal of a number; none for 0, which is success, for 16, and for a number above 22.
     pub fn from_number(number: u64) -> Option<Refusal> {
         ALL.iter().map(|row| row.0).find(|refusal| *refusal as u64 == number)
     }
