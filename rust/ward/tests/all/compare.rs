@@ -140,9 +140,9 @@ fn receivers_of_all_sizes() {
     }
 }
 
-/// A tick of the day, or one after it.
-fn tick(random: &mut Random, ticks: usize) -> usize {
-    if random.below(16) == 0 { usize::MAX - random.below(2) } else { random.below(ticks.min(96) + 1) }
+/// A number below a count, as badges and ticks of a day are; or one that is not.
+fn about_below(random: &mut Random, count: usize) -> usize {
+    if random.below(16) == 0 { usize::MAX - random.below(2) } else { random.below(count + 1) }
 }
 
 /// Every call on words, into buffers of about the exact size, and the report into larger ones.
@@ -158,12 +158,15 @@ fn compare_words(random: &mut Random, words: &[u64], n: usize, ticks: usize, rev
     let least = random_least(random, n, ticks);
     let room = near(random, day.groups(least).map_or(40, |bytes| bytes.len()));
     _ = day.filtered(least, room);
-    let (first, last) = (tick(random, ticks), tick(random, ticks));
+    let (first, last) = (about_below(random, ticks.min(96)), about_below(random, ticks.min(96)));
     let room = near(random, n.min(64));
     _ = day.core_numbers(first, last, room);
     let (query, parts) = (random_query(random, n, review), random_parts(random, ticks));
     let room = near(random, 19 + 13 * parts.min(96));
     _ = day.plan(query, parts, room);
+    let (index, start) = (about_below(random, n.min(64)), about_below(random, ticks.min(96)));
+    let room = near(random, 2 * n.min(64));
+    _ = day.trace(index, start, room);
 }
 
 /// Up to one more than there are ticks.
@@ -204,6 +207,7 @@ fn days() {
     all_seen("core numbers", &[8, 9, 10, 11, 12, 20]);
     all_seen("report", &[8, 9, 10, 11, 17, 20]);
     all_seen("plan", &[8, 9, 10, 11, 13, 14, 20, 21]);
+    all_seen("trace", &[8, 9, 10, 11, 22]);
 }
 
 /// Every number of ticks and every number of badges, in two pairings.

@@ -91,6 +91,27 @@ fn all_records_in_one_log() {
     }
 }
 
+/// The ticks of a trace of a day's words, from the last badge at the first tick.
+fn ticks_reached(words: &[u64], n: usize) -> Vec<u8> {
+    let mut trace = vec![0; 2 * n];
+    assert_eq!(ward::trace(words, n, words.len() / n, n - 1, 0, &mut trace), Ok(2 * n));
+    trace.truncate(n);
+    trace
+}
+
+/// At 1 a badge is reached as in one log that has all the records; at a larger quorum nobody is reached sooner.
+#[test]
+fn traces_of_joined_days() {
+    for_random_receivers(87, |_, logs| {
+        let n = logs[0][2] as usize;
+        let reached: Vec<Vec<u8>> = (1..=logs.len()).map(|quorum| ticks_reached(&words_joined(logs, quorum), n)).collect();
+        assert_eq!(reached[0], ticks_reached(&words_read(&one_log_of(logs)), n));
+        for pair in reached.windows(2) {
+            assert!(pair[0].iter().zip(&pair[1]).all(|(smaller, larger)| smaller <= larger));
+        }
+    });
+}
+
 /// Every call on words takes the words of a joined day. Write may refuse it by 15, and else gives a log that reads as the same words.
 fn is_taken(words: &[u64], n: usize, ticks: usize, queries: &[u64]) {
     let day = Handed::new(words, n, ticks);
@@ -104,6 +125,9 @@ fn is_taken(words: &[u64], n: usize, ticks: usize, queries: &[u64]) {
     assert!(day.report(ward::report_bytes(n, ticks)).is_ok());
     for (first, last) in [(0, ticks - 1), (0, 0), (ticks / 2, ticks / 2)] {
         assert!(day.core_numbers(first, last, n).is_ok());
+    }
+    for (index, start) in [(0, 0), (n - 1, ticks / 2)] {
+        assert!(day.trace(index, start, 2 * n).is_ok());
     }
     for query in queries {
         assert!(day.plan(*query, 1 + ticks / 2, ward::PLAN_BYTES).is_ok());

@@ -53,7 +53,8 @@ fn another_partner_in_each_tick() {
     assert_eq!(day.report(10 + 13 * 96), Ok(model::report_bytes(64, 96, &groups)));
 }
 
-/// A word too few; a last tick of T; a number of parts above T; a byte too few; and in the last tick a bit without its mirror.
+/// A word too few; a last tick of T; a number of parts above T; an index of n and a start of T; a byte too few; and in the last tick a bit without
+/// its mirror.
 #[test]
 fn refusals() {
     let (last, mut words) = (1 << 63, [0; 6144]);
@@ -61,32 +62,40 @@ fn refusals() {
     assert_eq!(few.core_numbers(0, 95, 64), Err((8, 0)));
     assert_eq!(few.report(9), Err((8, 0)));
     assert_eq!(few.plan(last, 2, 44), Err((8, 0)));
+    assert_eq!(few.trace(63, 95, 128), Err((8, 0)));
     let empty = Handed::new(&words, 64, 96);
     assert_eq!(empty.core_numbers(0, 96, 64), Err((12, 0)));
     assert_eq!(empty.core_numbers(0, 95, 63), Err((9, 0)));
     assert_eq!(empty.report(9), Err((9, 0)));
     assert_eq!(empty.plan(last, 97, 9), Err((14, 0)));
     assert_eq!(empty.plan(last, 2, 44), Err((9, 0)));
+    assert_eq!(empty.trace(64, 95, 127), Err((22, 0)));
+    assert_eq!(empty.trace(63, 96, 127), Err((22, 0)));
+    assert_eq!(empty.trace(63, 95, 127), Err((9, 0)));
     words[6143] = 1;
     let broken = Handed::new(&words, 64, 96);
     assert_eq!(broken.core_numbers(0, 95, 63), Err((11, 0)));
     assert_eq!(broken.report(44), Err((11, 0)));
     assert_eq!(broken.plan(last, 2, 44), Err((11, 0)));
+    assert_eq!(broken.trace(64, 96, 127), Err((11, 0)));
 }
 
-/// Days without contacts of every size, with words after them: all core numbers are 0, the report has no group, and the tidy log no contact.
+/// Days without contacts of every size, with words after them: all core numbers are 0, the report has no group, the tidy log no contact, and the last
+/// badge reaches nobody from the last tick on.
 #[test]
 fn without_contacts() {
     let words = [0; 6144];
     for n in 1..=64 {
         for ticks in 1..=96 {
-            let (mut numbers, mut report, mut log) = (Lent::room(n), Lent::room(10), Lent::room(10));
+            let (mut numbers, mut report, mut log, mut trace) = (Lent::room(n), Lent::room(10), Lent::room(10), Lent::room(2 * n));
             assert_eq!(ward::core_numbers(&words, n, ticks, full(n), 0, ticks - 1, numbers.slice()), Ok(n));
             assert_eq!(ward::report(&words, n, ticks, full(n), ward::Thresholds::default(), report.slice()), Ok(10));
             assert_eq!(ward::write(&words, n, ticks, log.slice()), Ok(10));
+            assert_eq!(ward::trace(&words, n, ticks, n - 1, ticks - 1, trace.slice()), Ok(2 * n));
             numbers.holds(&vec![0; n]);
             report.holds(&model::report_bytes(n, ticks, &[]));
             log.holds(&model::log_bytes(n as u8, ticks as u8, &[]));
+            trace.holds(&[vec![255; n - 1], vec![ticks as u8 - 1], vec![255; n]].concat());
         }
         for ticks in [1, 96] {
             let day = Handed::new(&words, n, ticks);

@@ -1,5 +1,5 @@
-//! Refusals of core numbers, of the report and of the plan, one at a time, and several at once, where the first in the order of judging is given. The
-//! numbers are written by hand.
+//! Refusals of core numbers, of the report, of the plan and of the trace, one at a time, and several at once, where the first in the order of judging
+//! is given. The numbers are written by hand.
 
 use crate::model::{Least, PLAIN};
 use crate::support::d1::{WORDS, turned};
@@ -275,4 +275,51 @@ fn plan() {
         assert_eq!(broken(14, NONE, 4, 3, review).plan(query, parts, room), Err((number, 0)));
     }
     all_seen("plan", &[8, 9, 10, 11, 13, 14, 20, 21]);
+}
+
+/// Trace of D1: index, start, how many bytes are lent; the number. One rule is broken, then both: 22 and 9 are judged in this order.
+const TRACE_REFUSED: &[(usize, usize, usize, u8)] = &[
+    (4, 0, 80, 22),
+    (4, 2, 8, 22),
+    (5, 0, 80, 22),
+    (63, 0, 80, 22),
+    (64, 0, 80, 22),
+    (HUGE, 0, 80, 22),
+    (0, 3, 80, 22),
+    (3, 3, 8, 22),
+    (2, 4, 80, 22),
+    (0, 95, 80, 22),
+    (0, 96, 80, 22),
+    (0, HUGE, 80, 22),
+    (4, 3, 80, 22),
+    (HUGE, HUGE, 80, 22),
+    (0, 0, 7, 9),
+    (3, 2, 7, 9),
+    (0, 2, 4, 9),
+    (3, 0, 1, 9),
+    (2, 1, 0, 9),
+    (4, 0, 7, 22),
+    (4, 2, 0, 22),
+    (HUGE, 0, 7, 22),
+    (0, 3, 7, 22),
+    (3, 3, 0, 22),
+    (0, HUGE, 4, 22),
+    (HUGE, HUGE, 0, 22),
+];
+
+/// Words that are refused are so whatever the index and the start are. The last badge and the last tick are no cause, and 2n bytes are enough.
+#[test]
+fn trace() {
+    for &(lent, bit, n, ticks, room, number) in WORDS_REFUSED {
+        for (index, start) in [(0, 0), (3, 2), (4, 0), (0, 3), (HUGE, 0), (0, HUGE), (HUGE, HUGE)] {
+            assert_eq!(broken(lent, bit, n, ticks, ALL).trace(index, start, room), Err((number, 0)));
+        }
+    }
+    for &(index, start, room, number) in TRACE_REFUSED {
+        assert_eq!(broken(14, NONE, 4, 3, ALL).trace(index, start, room), Err((number, 0)));
+    }
+    for (index, start, room) in [(0, 0, 8), (3, 0, 8), (0, 2, 8), (3, 2, 8), (3, 2, 9), (3, 2, 80)] {
+        assert!(broken(12, NONE, 4, 3, ALL).trace(index, start, room).is_ok());
+    }
+    all_seen("trace", &[8, 9, 10, 11, 22]);
 }

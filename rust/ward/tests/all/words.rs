@@ -8,8 +8,9 @@ use crate::support::random::Random;
 
 type Call = fn(&[u64], usize, usize, u64, &mut [u8]) -> Result<usize, ward::Refused>;
 
-const CALLS: [Call; 4] = [
+const CALLS: [Call; 5] = [
     |words, n, ticks, _, out| ward::write(words, n, ticks, out),
+    |words, n, ticks, _, out| ward::trace(words, n, ticks, 0, 0, out),
     |words, n, ticks, review, out| ward::core_numbers(words, n, ticks, review, 0, 0, out),
     |words, n, ticks, review, out| ward::report(words, n, ticks, review, ward::Thresholds::default(), out),
     |words, n, ticks, review, out| ward::plan(words, n, ticks, review, 0, 1, out),

@@ -9,6 +9,7 @@ mod records;
 mod reviews;
 mod spans;
 mod thresholds;
+mod tracing;
 
 pub use days::{Day, check};
 pub use graphs::{Graph, full};
@@ -19,6 +20,7 @@ pub use records::{Record, plan_bytes, report_bytes};
 pub use reviews::{check_query, check_review};
 pub use spans::Cores;
 pub use thresholds::{Least, PLAIN, RANGES, check_least, kept};
+pub use tracing::{check_start, trace};
 
 /// A refusal's number and offset.
 pub type Refusal = (u8, usize);

@@ -33,6 +33,11 @@ impl Handed {
         self.compare("write", room, self.log(), call)
     }
 
+    pub fn trace(&self, index: usize, start: usize, room: usize) -> Result<Vec<u8>, Refusal> {
+        let call = |words: &[u64], out: &mut [u8]| ward::trace(words, self.n, self.ticks, index, start, out);
+        self.compare("trace", room, self.traced(index, start), call)
+    }
+
     pub fn core_numbers(&self, first: usize, last: usize, room: usize) -> Result<Vec<u8>, Refusal> {
         let call = |words: &[u64], out: &mut [u8]| ward::core_numbers(words, self.n, self.ticks, self.review, first, last, out);
         self.compare("core numbers", room, self.numbers(first, last), call)
@@ -93,6 +98,12 @@ impl Handed {
     pub fn log(&self) -> Result<Vec<u8>, Refusal> {
         let runs = self.day()?.runs();
         if runs.len() > 8000 { Err((15, 0)) } else { Ok(model::log_bytes(self.n as u8, self.ticks as u8, &runs)) }
+    }
+
+    /// Trace: 10, 8, 11, 22.
+    pub fn traced(&self, index: usize, start: usize) -> Result<Vec<u8>, Refusal> {
+        let day = self.day()?;
+        model::check_start(day, index, start).map(|()| model::trace(day, index, start))
     }
 
     /// Core numbers: 10, 8, 11, 20, 12.
