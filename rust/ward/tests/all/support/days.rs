@@ -22,6 +22,14 @@ pub fn random_day(random: &mut Random, n: usize, ticks: usize, density: usize, k
     day
 }
 
+/// Puts pairs in contact by chance, so many times in one tick each; some may be the same.
+pub fn meet_some(random: &mut Random, day: &mut Day, count: usize) {
+    for _ in 0..if day.n < 2 { 0 } else { count } {
+        let u = random.below(day.n);
+        day.meet(random.below(day.ticks), u, (u + 1 + random.below(day.n - 1)) % day.n);
+    }
+}
+
 /// A day of n badges in which a pair is in contact in a tick, or is not, by a rule on the tick, the smaller badge and the larger.
 pub fn day_by(n: usize, ticks: usize, met: impl Fn(usize, usize, usize) -> bool) -> Day {
     let mut day = Day::empty(n, ticks);

@@ -1,5 +1,6 @@
 //! Teams that are in contact in some shape, and random days of them: many circles.
 
+use super::days::meet_some;
 use super::random::Random;
 use crate::model::Day;
 use std::ops::RangeInclusive;
@@ -75,9 +76,7 @@ pub fn random_teams(random: &mut Random, n: usize, ticks: usize) -> Day {
         }
         from = to + 1;
     }
-    for _ in 0..if n < 2 { 0 } else { random.below(ticks + 1) } {
-        let u = random.below(n);
-        day.meet(random.below(ticks), u, (u + 1 + random.below(n - 1)) % n);
-    }
+    let count = if n < 2 { 0 } else { random.below(ticks + 1) };
+    meet_some(random, &mut day, count);
     day
 }
