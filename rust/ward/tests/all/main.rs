@@ -5,6 +5,7 @@
 mod model;
 mod support;
 
+mod chains;
 mod circles;
 mod compare;
 mod join_refusals;
@@ -22,4 +23,5 @@ mod reviews;
 mod rows;
 mod thresholds;
 mod tidying;
+mod traces;
 mod words;

@@ -217,7 +217,7 @@ fn left_out_of_the_largest_days() {
 }
 
 /// A number, mostly small, sometimes any.
-fn any_number(random: &mut Random) -> usize {
+pub fn any_number(random: &mut Random) -> usize {
     if random.below(16) == 0 { random.next() as usize >> random.below(64) } else { 1 + random.below(6) }
 }
 
