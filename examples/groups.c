@@ -12,17 +12,15 @@
 #define CLEANING_STAFF ((uint64_t)1 << 1 | (uint64_t)1 << 3)
 
 int main(int argc, char **argv) {
-    static uint8_t log[WARD_LOG_BYTES + 1], plan[WARD_PLAN_BYTES];
+    static uint8_t plan[WARD_PLAN_BYTES];
     static uint64_t words[WARD_WORDS];
     uint64_t answer[5];
     if (argc != 4) {
         fprintf(stderr, "usage: groups LOG BADGE PARTS\n");
         return 2;
     }
-    size_t size = read_file(argv[1], log, sizeof log);
 
-    ward_read(log, size, words, WARD_WORDS, answer);
-    check(answer);
+    read_log(argv[1], words, answer);
     size_t badges = answer[WARD_BADGES], ticks = answer[WARD_TICKS];
     uint64_t everyone = ward_all_badges(badges);
 

@@ -1,4 +1,5 @@
-/* What the examples share: reading a file, ending where a call was refused, printing the records of a report or a plan, and the groups of a day. */
+/* What the examples share: reading a file or a log, ending where a call was refused, printing a set of badges, the records of a report or a plan, and
+ * the groups of a day. Each uses some of it. */
 #ifndef SHOW_H
 #define SHOW_H
 
@@ -8,7 +9,7 @@
 #include "ward.h"
 
 /* Reads a file, or so much of it as there is room; gives how many bytes. */
-static size_t read_file(const char *name, uint8_t *bytes, size_t room) {
+static inline size_t read_file(const char *name, uint8_t *bytes, size_t room) {
     FILE *file = fopen(name, "rb");
     if (file == NULL) {
         perror(name);
@@ -19,29 +20,43 @@ static size_t read_file(const char *name, uint8_t *bytes, size_t room) {
     return size;
 }
 
-static void check(const uint64_t answer[5]) {
+static inline void check(const uint64_t answer[5]) {
     if (answer[WARD_NUMBER] != WARD_SUCCESS) {
         printf("refused %d at %d\n", (int)answer[WARD_NUMBER], (int)answer[WARD_OFFSET]);
         exit(1);
     }
 }
 
+/* Reads the log that a file holds into WARD_WORDS day words; its badges and ticks are in the answer. */
+static inline void read_log(const char *name, uint64_t *words, uint64_t answer[5]) {
+    static uint8_t log[WARD_LOG_BYTES + 1];
+    size_t size = read_file(name, log, sizeof log);
+    ward_read(log, size, words, WARD_WORDS, answer);
+    check(answer);
+}
+
+/* The badges of a set with bit u for badge u, rising, and the end of the line. */
+static inline void print_badges(uint64_t set) {
+    printf(" badges");
+    for (int u = 0; u < 64; u++)
+        if (set >> u & 1)
+            printf(" %d", u);
+    printf("\n");
+}
+
 /* A record of a report or a plan has 13 bytes: a mark of two, an order or score, first and last tick, and members in eight. */
-static void print_records(const char *what, const uint8_t *bytes, size_t header, size_t size) {
+static inline void print_records(const char *what, const uint8_t *bytes, size_t header, size_t size) {
     for (size_t at = header; at + 6 < size; at += 13) {
         uint64_t members = 0;
         for (int i = 7; i >= 0; i--)
             members = members * 256 + bytes[at + 5 + i];
-        printf("%s %d ticks %d to %d badges", what, bytes[at + 2], bytes[at + 3], bytes[at + 4]);
-        for (int u = 0; u < 64; u++)
-            if (members >> u & 1)
-                printf(" %d", u);
-        printf("\n");
+        printf("%s %d ticks %d to %d", what, bytes[at + 2], bytes[at + 3], bytes[at + 4]);
+        print_badges(members);
     }
 }
 
 /* The groups of a day among the badges under review, a set with bit u for badge u. Thresholds 1, 1 and 2 keep every group. */
-static void print_groups(const uint64_t *words, size_t badges, size_t ticks, uint64_t review) {
+static inline void print_groups(const uint64_t *words, size_t badges, size_t ticks, uint64_t review) {
     static uint8_t report[WARD_REPORT_BYTES];
     uint64_t answer[5];
     ward_report(words, WARD_WORDS, badges, ticks, review, 1, 1, 2, report, sizeof report, answer);
