@@ -5,7 +5,7 @@ set -euo pipefail
 cd "$(dirname "${BASH_SOURCE[0]}")/.."
 scratch=$(mktemp -d)
 trap 'rm -rf "$scratch"' EXIT
-for example in groups receivers; do
+for example in groups receivers trace; do
     cc -std=c11 -Wall -Wextra -Wpedantic -Werror -fsanitize=address,undefined -Iinclude "examples/$example.c" target/staticlib/libward.a \
         -o "$scratch/$example"
 done
@@ -91,6 +91,43 @@ refused 2 at 40
 TEXT
 try receivers 1 examples/ward-east.log crates/listing/stdin 3<<'TEXT'
 refused 19 at 0
+TEXT
+
+# In tick 2 badges 0 and 1 are in contact, and badges 1 and 2: badge 1 passes on after that tick alone, when nobody is in contact with it. From tick 0
+# on badge 2 reaches badges 0 and 1 at once.
+try trace examples/ward.log 0 2 3<<'TEXT'
+badge 0 from tick 2
+badge 1 in tick 2 from badge 0
+never reached: badges 2 3 4
+TEXT
+try trace examples/ward.log 2 0 3<<'TEXT'
+badge 2 from tick 0
+badge 0 in tick 0 from badge 2
+badge 1 in tick 0 from badge 2
+never reached: badges 3 4
+TEXT
+
+# D1 from badge 3: everybody is reached, badges 0 and 1 in tick 1.
+try trace crates/listing/stdin 3 0 3<<'TEXT'
+badge 3 from tick 0
+badge 2 in tick 0 from badge 3
+badge 0 in tick 1 from badge 2
+badge 1 in tick 1 from badge 2
+TEXT
+
+# From the last tick on, nobody; then a badge and a tick that the day does not have, and a file that is no log.
+try trace examples/ward.log 0 3 3<<'TEXT'
+badge 0 from tick 3
+never reached: badges 1 2 3 4
+TEXT
+try trace examples/ward.log 5 0 3<<'TEXT'
+refused 22 at 0
+TEXT
+try trace examples/ward.log 0 4 3<<'TEXT'
+refused 22 at 0
+TEXT
+try trace README.md 0 0 3<<'TEXT'
+refused 2 at 0
 TEXT
 
 echo "$passed passed, $failed failed"
