@@ -1,7 +1,8 @@
-/* Random calls through the C interface, with every lent buffer between two pages that cannot be read or written, flush against one of them, and
- * with what a call may only read on pages that cannot be written: a call that reaches outside what was lent, or writes where it must not, ends the
- * program. So does an answer that is not of the form that the header gives, and a join that writes words it must leave, or leaves work words that
- * are not 0. Its argument is the number of calls. Prints how many of each were refused and how many succeeded. */
+/* Random calls through the C interface, with every lent buffer between two pages that cannot be read or written, flush against one of them, and with
+ * what a call may only read on pages that cannot be written: a call that reaches outside what was lent, or writes where it must not, ends the
+ * program. So does an answer that is not of the form that the header gives, a join that writes words it must leave, or leaves work words that are not
+ * 0, and a trace that writes bytes it must leave, or shows a source that cannot be one. Its argument is the number of calls. Prints how many of each
+ * were refused and how many succeeded. */
 #define _DEFAULT_SOURCE
 #include <stdio.h>
 #include <stdlib.h>
@@ -12,9 +13,10 @@
 
 /* A region has room for any report, the most that a call may need, in whole pages. */
 enum { PAGE = 4096, ROOM = (WARD_REPORT_BYTES + PAGE - 1) / PAGE * PAGE, MOST_LOGS = 5 };
-enum { READ, JOIN, TIDY, WRITE, CORE_NUMBERS, REPORT, PLAN, CALLS };
+enum { READ, JOIN, TIDY, WRITE, TRACE, CORE_NUMBERS, REPORT, PLAN, CALLS };
 
-static const char *const names[CALLS] = {"ward_read", "ward_join", "ward_tidy", "ward_write", "ward_core_numbers", "ward_report", "ward_plan"};
+static const char *const names[CALLS] = {"ward_read",  "ward_join",         "ward_tidy",   "ward_write",
+                                         "ward_trace", "ward_core_numbers", "ward_report", "ward_plan"};
 
 static uint64_t state = 88172645463325252u;
 
@@ -90,6 +92,12 @@ static size_t odd_size(size_t usual, size_t most) {
     return below(20) == 0 ? odd[below(6)] : 1 + below(usual < most ? usual : most);
 }
 
+/* A badge or a tick of a day that has so many: mostly one that it has, sometimes the next, or one far off. */
+static size_t about_below(size_t count) {
+    const size_t odd[] = {count, count + 1, 255, 256, (size_t)1 << 32, SIZE_MAX};
+    return count == 0 || below(10) == 0 ? odd[below(6)] : below(count);
+}
+
 /* A threshold, mostly near the lower end of its range; sometimes at its upper end, or outside. */
 static size_t threshold(size_t from, size_t to) {
     const size_t odd[] = {0, from - 1, to, to + 1, SIZE_MAX};
@@ -144,6 +152,7 @@ static const uint32_t refusals[CALLS] = {LOG | GIVES(WARD_TOO_FEW_WORDS),
                                          LOG | GIVES(WARD_TOO_FEW_WORDS) | GIVES(WARD_INVALID_RECEIVERS) | GIVES(WARD_DIFFERENT_SHIFTS),
                                          LOG | GIVES(WARD_TOO_FEW_WORDS) | GIVES(WARD_BUFFER_TOO_SHORT),
                                          CHECK | GIVES(WARD_WRITE_TOO_MANY),
+                                         CHECK | GIVES(WARD_INVALID_START),
                                          REVIEW | GIVES(WARD_INVALID_SPAN),
                                          REVIEW | GIVES(WARD_THRESHOLD_OUT_OF_RANGE),
                                          REVIEW | GIVES(WARD_FOREIGN_QUERY) | GIVES(WARD_QUERY_NOT_REVIEWED) | GIVES(WARD_INVALID_PARTS)};
@@ -207,6 +216,42 @@ static void call_on_log(size_t call, size_t n, size_t ticks, uint64_t *words, si
     writable(in, 1);
 }
 
+/* Whether a trace of 2n bytes, from an index at a start, can be one: the index has the start and no source, and every other badge either neither tick
+ * nor source, or a tick from the start on, and a source in contact with it in that tick that is the index or was reached before. */
+static int is_trace(const uint64_t *words, size_t n, size_t ticks, size_t index, size_t start, const uint8_t *trace) {
+    for (size_t u = 0; u < n; u++) {
+        size_t tick = trace[u], source = trace[n + u];
+        int none = source == WARD_NONE && tick == (u == index ? start : WARD_NONE);
+        int reached = u != index && start <= tick && tick < ticks && source < n && words[tick * n + u] >> source & 1 &&
+                      (source == index || trace[source] < tick);
+        if (!none && !reached)
+            return 0;
+    }
+    return 1;
+}
+
+/* Traces from a random badge at a random tick, mostly of the day, with one value in all bytes that are lent. Whether it was refused by 22 only where
+ * the day has not both, and where it was not refused wrote a trace of 2n bytes; and kept all other bytes. */
+static int trace(size_t n, size_t ticks, uint64_t *words, size_t words_len, uint8_t *out, size_t out_len, uint64_t *answer) {
+    size_t index = about_below(n), start = about_below(ticks), written = 0;
+    int of_the_day = index < n && start < ticks;
+    memset(out, 0x5a, out_len);
+    fill_words(words, words_len, n, ticks);
+    writable(words_at, 0);
+    ward_trace(words, words_len, n, ticks, index, start, out, out_len, answer);
+    writable(words_at, 1);
+    if (answer[WARD_NUMBER] == WARD_INVALID_START && of_the_day)
+        return 0;
+    if (answer[WARD_NUMBER] == WARD_SUCCESS) {
+        written = answer[WARD_COUNT];
+        if (!of_the_day || written != 2 * n || written > out_len || !is_trace(words, n, ticks, index, start, out))
+            return 0;
+    }
+    while (written < out_len && out[written] == 0x5a)
+        written++;
+    return written == out_len;
+}
+
 /* A call on the words of a random day, or of none, lent bytes. */
 static void call_on_words(size_t call, size_t n, size_t ticks, uint64_t *words, size_t words_len, uint8_t *out, size_t out_len, uint64_t *answer) {
     uint64_t review = random_review(n);
@@ -242,6 +287,8 @@ int main(int argc, char **argv) {
         memset(answer, 255, 40);
         if (call == JOIN)
             kept = join(1 + n % 66, 1 + ticks % 98, answer);
+        else if (call == TRACE)
+            kept = trace(n, ticks, words, words_len, out, out_len, answer);
         else if (call == READ || call == TIDY)
             call_on_log(call, 1 + n % 66, 1 + ticks % 98, words, words_len, out, out_len, answer);
         else
