@@ -11,15 +11,16 @@
 #include "ward.h"
 
 enum { PAGE = 4096, STACK = 1 << 20, LIMIT = 256 << 10, N = 64, TICKS = 96, PAIRS = N * (N - 1) / 2, RECORDS = 8000, LOGS = 4 };
-enum { READ, JOIN, TIDY, WRITE, CORE_NUMBERS, REPORT, PLAN, CALLS };
+enum { READ, JOIN, TIDY, WRITE, TRACE, CORE_NUMBERS, REPORT, PLAN, CALLS };
 
-static const char *const names[CALLS] = {"ward_read", "ward_join", "ward_tidy", "ward_write", "ward_core_numbers", "ward_report", "ward_plan"};
+static const char *const names[CALLS] = {"ward_read",  "ward_join",         "ward_tidy",   "ward_write",
+                                         "ward_trace", "ward_core_numbers", "ward_report", "ward_plan"};
 
 /* What the next call takes, and what the calls fill. */
 static int call;
 static uint64_t words[WARD_WORDS], review, query;
 static uint8_t log_bytes[WARD_LOG_BYTES], logs[LOGS * WARD_LOG_BYTES];
-static size_t log_size, logs_size, lengths[LOGS], quorum, last, parts, least_ticks;
+static size_t log_size, logs_size, lengths[LOGS], quorum, badge, start, last, parts, least_ticks;
 static uint64_t work[WARD_WORDS], join_work[WARD_JOIN_WORK_WORDS], answer[5];
 static uint8_t out[WARD_REPORT_BYTES];
 
@@ -36,6 +37,8 @@ static void make_call(void) {
         ward_tidy(log_bytes, log_size, work, WARD_WORDS, out, sizeof out, answer);
     else if (call == WRITE)
         ward_write(words, WARD_WORDS, N, TICKS, out, sizeof out, answer);
+    else if (call == TRACE)
+        ward_trace(words, WARD_WORDS, N, TICKS, badge, start, out, sizeof out, answer);
     else if (call == CORE_NUMBERS)
         ward_core_numbers(words, WARD_WORDS, N, TICKS, review, 0, last, out, sizeof out, answer);
     else if (call == REPORT)
@@ -130,9 +133,22 @@ static void measure_review(uint64_t badges) {
     }
 }
 
-/* All badges under review, and half of them. */
+/* The trace from the first badge and from the last, at the first tick, in the middle and at the last. */
+static void measure_traces(void) {
+    static const size_t starts[] = {0, TICKS / 2, TICKS - 1};
+    for (size_t i = 0; i < 3; i++) {
+        start = starts[i];
+        badge = 0;
+        measure(TRACE);
+        badge = N - 1;
+        measure(TRACE);
+    }
+}
+
+/* The calls on words, with all badges under review and with half of them. */
 static void measure_words(void) {
     measure(WRITE);
+    measure_traces();
     measure_review(ward_all_badges(N));
     measure_review(ward_all_badges(N / 2));
 }
