@@ -1,12 +1,15 @@
 #!/usr/bin/env bash
 # Counts the instructions of one call on each day of the benchmark, in millions: figures that repeat. One table has the plain report, made by the
-# engine and by each baseline, and 'filtered', the engine's report of the groups that last 4 ticks or more, are of order 2 or more and have 3 members or
-# more: it should take no more instructions than the plain one, and how many fewer it takes, one by one, stands last but one; and 'half', the engine's
-# report with the lower half of the badges under review, whose ratio to the plain one stands last. All other calls review all badges. The second table
-# has the plan around badges 0 and 1 in 8 and in 32 parts, made by the engine and, as 'bitplan', by the baseline with bitsets. The third has the
-# engine's core numbers of ticks 0 to 3, write, and read and tidy of the day's log. The fourth has the join of the logs of 2 and of 4 receivers at
-# quorum 2, each with each run of the day's log with probability 3/4, and before it the reads of the same logs, one after the other. In both there is a
-# '-' where a day has no log, having more than 8,000 runs. Each count is of one call, or of the reads of 2 or 4 logs, in a new process.
+# engine and by each baseline, and 'filtered', the engine's report of the groups that last 4 ticks or more, are of order 2 or more and have 3 members
+# or more: it should take no more instructions than the plain one, and how many fewer it takes, one by one, stands last but one; and 'half', the
+# engine's report with the lower half of the badges under review, whose ratio to the plain one stands last. All other calls review all badges. The
+# second table has the plan around badges 0 and 1 in 8 and in 32 parts, made by the engine and, as 'bitplan', by the baseline with bitsets. The third
+# has the trace from badge 0 at tick 0, made by the engine and, as 'bittrace', by the baseline with sets in words, and 'checked', the engine's trace
+# from badge n, which is refused directly after the check of the words; what the engine's trace itself takes, their difference, stands last, divided
+# by the number of words of the day, badges times ticks: instructions a word, and no millions. The fourth has the engine's core numbers of ticks 0 to
+# 3, write, and read and tidy of the day's log. The fifth has the join of the logs of 2 and of 4 receivers at quorum 2, each with each run of the
+# day's log with probability 3/4, and before it the reads of the same logs, one after the other. In these two there is a '-' where a day has no log,
+# having more than 8,000 runs. Each count is of one call, or of the reads of 2 or 4 logs, in a new process.
 # Needs cargo, valgrind, and target/staticlib/libward.a, which `rt staticlib ward` writes. Its arguments are the days, all six if there are none;
 # there is one more, 'circles', of which every core falls apart.
 set -euo pipefail
@@ -47,6 +50,20 @@ for day in "$@"; do
         printf '%16s' "$(ratio "$plan" "$bitplan")"
     done
     printf '\n'
+done
+
+traces=(trace bittrace checked)
+words=$((64 * 96)) # of each of the days
+printf '\n%-20s' "trace, millions"
+printf '%12s' "${traces[@]}"
+printf '%16s%24s\n' "engine/bitsets" "(trace-checked)/words"
+for day in "$@"; do
+    printf '%-20s' "$day"
+    for call in "${traces[@]}"; do
+        counts[$call]=$(count "$day" "$call")
+        millions "${counts[$call]}"
+    done
+    printf '%16s%24s\n' "$(ratio "${counts[trace]}" "${counts[bittrace]}")" "$(ratio "$((counts[trace] - counts[checked]))" "$words")"
 done
 
 others=(numbers write read tidy)

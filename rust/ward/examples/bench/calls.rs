@@ -1,11 +1,12 @@
 //! The calls that are measured, by name: with all badges under review, but for one report.
 
-use crate::baselines::{algorithm2, bitset_plan, bitsets, lists};
+use crate::baselines::{algorithm2, bitset_plan, bitset_trace, bitsets, lists};
 use crate::days::Day;
 use crate::receivers;
 
 pub type Report = fn(&[u64], usize, usize, &mut [u8]) -> Option<usize>;
 pub type Plan = fn(&[u64], usize, usize, u64, usize, &mut [u8]) -> Option<usize>;
+pub type Trace = fn(&[u64], usize, usize, usize, usize, &mut [u8]) -> Option<usize>;
 
 pub fn engine_report(words: &[u64], n: usize, ticks: usize, out: &mut [u8]) -> Option<usize> {
     ward::report(words, n, ticks, ward::all_badges(n), ward::Thresholds::default(), out).ok()
@@ -25,6 +26,15 @@ fn engine_plan(words: &[u64], n: usize, ticks: usize, query: u64, parts: usize, 
     ward::plan(words, n, ticks, ward::all_badges(n), query, parts, out).ok()
 }
 
+fn engine_trace(words: &[u64], n: usize, ticks: usize, index: usize, start: usize, out: &mut [u8]) -> Option<usize> {
+    ward::trace(words, n, ticks, index, start, out).ok()
+}
+
+/// The number by which the engine refuses a trace from badge n, directly after the check of the words: what a trace takes beside this is its own.
+fn checked(words: &[u64], n: usize, ticks: usize, out: &mut [u8]) -> usize {
+    ward::trace(words, n, ticks, n, 0, out).expect_err("there is no badge n").refusal.number().into()
+}
+
 /// The ways to make the plain report.
 pub const REPORTS: [(&str, Report); 4] =
     [("engine", engine_report), ("lists", lists::report), ("algorithm2", algorithm2::report), ("bitsets", bitsets::report)];
@@ -35,9 +45,14 @@ pub const PLANS: [(&str, Plan); 2] = [("plan", engine_plan), ("bitplan", bitset_
 pub const PARTS: [usize; 2] = [8, 32];
 /// The badges that a plan is around: 0 and 1.
 pub const QUERY: u64 = 0b11;
-pub const OTHERS: [&str; 8] = ["numbers", "write", "read", "tidy", "reads2", "join2", "reads4", "join4"];
+/// The ways to make a trace, and where it starts: at badge 0, in tick 0.
+pub const TRACES: [(&str, Trace); 2] = [("trace", engine_trace), ("bittrace", bitset_trace::trace)];
+pub const INDEX: usize = 0;
+pub const START: usize = 0;
+pub const OTHERS: [&str; 10] = ["numbers", "trace", "checked", "write", "read", "tidy", "reads2", "join2", "reads4", "join4"];
 
-/// A call on one day with buffers of its own, to be made so often as one likes: the number of bytes, of contact records, or of words, that it gives.
+/// A call on one day with buffers of its own, to be made so often as one likes: the number of bytes, of contact records, or of words, that it gives,
+/// or of its refusal.
 pub type Call<'a> = Box<dyn FnMut() -> usize + 'a>;
 
 /// The call of a name; none where it needs the day's log and the day has none, having more than 8,000 runs.
@@ -58,9 +73,21 @@ fn made_of_words<'a>(name: &str, day: &'a Day) -> Option<Call<'a>> {
             return Some(Box::new(move || plan(words, badges, ticks, QUERY, parts, &mut out).expect("as many parts as ticks or fewer")));
         }
     }
-    let (everyone, mut out) = (ward::all_badges(badges), vec![0; ward::CORE_NUMBERS]);
-    (name == "numbers")
-        .then(|| -> Call { Box::new(move || ward::core_numbers(words, badges, ticks, everyone, 0, 3, &mut out).expect("four ticks")) })
+    if let Some(&(_, trace)) = TRACES.iter().find(|t| t.0 == name) {
+        let mut out = vec![0; ward::TRACE_BYTES];
+        return Some(Box::new(move || trace(words, badges, ticks, INDEX, START, &mut out).expect("a trace")));
+    }
+    match name {
+        "numbers" => {
+            let (everyone, mut out) = (ward::all_badges(badges), vec![0; ward::CORE_NUMBERS]);
+            Some(Box::new(move || ward::core_numbers(words, badges, ticks, everyone, 0, 3, &mut out).expect("four ticks")))
+        }
+        "checked" => {
+            let mut out = vec![0; ward::TRACE_BYTES];
+            Some(Box::new(move || checked(words, badges, ticks, &mut out)))
+        }
+        _ => None,
+    }
 }
 
 /// The call of a name that is made on the day's log, if there is one, or writes it.

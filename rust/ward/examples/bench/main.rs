@@ -1,8 +1,9 @@
 //! Compares the plain report with baselines in Rust, with the engine's own report under thresholds and with the one of half of the badges; the plan
-//! around badges 0 and 1 in 8 and in 32 parts with a baseline; and measures the core numbers of ticks 0 to 3, write, read and tidy of the day's log, and
-//! the join of the logs of 2 and of 4 receivers at quorum 2 beside the reads of the same logs, one after the other, on days of 64 badges and 96 ticks from
-//! a fixed generator. Medians of wall time, and ratios, in one run. Every baseline does the checks of its call and the encoding, as the engine does, and
-//! its bytes are compared with the engine's first. Buffers are not cleared between calls.
+//! around badges 0 and 1 in 8 and in 32 parts with a baseline; the trace from badge 0 at tick 0 with a baseline; and measures the core numbers of
+//! ticks 0 to 3, that trace beside one that is refused once the words are checked, write, read and tidy of the day's log, and the join of the logs of
+//! 2 and of 4 receivers at quorum 2 beside the reads of the same logs, one after the other, on days of 64 badges and 96 ticks from a fixed generator.
+//! Medians of wall time, and ratios, in one run. Every baseline does the checks of its call and the encoding, as the engine does, and its bytes are
+//! compared with the engine's first. Buffers are not cleared between calls.
 //!
 //!     cargo run --offline --release --example bench                the tables
 //!     cargo run --offline --release --example bench -- W C         one call, for an instruction count: workload W, call C, as in random plan8
@@ -15,7 +16,7 @@ mod days;
 mod random;
 mod receivers;
 
-use calls::{ready, Call, OTHERS, PARTIAL, PARTS, PLANS, QUERY, REPORTS};
+use calls::{ready, Call, INDEX, OTHERS, PARTIAL, PARTS, PLANS, QUERY, REPORTS, START, TRACES};
 use days::Day;
 use std::time::Instant;
 
@@ -61,6 +62,16 @@ fn compare_plans(name: &str, day: &Day, parts: usize) {
     assert!(engine == bitsets, "{name}: a plan in {parts} parts");
 }
 
+/// Every way to make a trace has to give the same bytes.
+fn compare_traces(name: &str, day: &Day) {
+    let [engine, bitsets] = TRACES.map(|(_, trace)| {
+        let mut out = vec![0; ward::TRACE_BYTES];
+        let size = trace(&day.words, day.badges, day.ticks, INDEX, START, &mut out).expect("a trace");
+        (size, out)
+    });
+    assert!(engine == bitsets, "{name}: a trace");
+}
+
 fn report_table() {
     print!("{:<12}{:>8}", "report, µs", "groups");
     REPORTS.iter().chain(&PARTIAL).for_each(|r| print!("{:>12}", r.0));
@@ -95,6 +106,18 @@ fn plan_table() {
     }
 }
 
+fn trace_table() {
+    print!("{:<20}", "trace, µs");
+    TRACES.iter().for_each(|t| print!("{:>12}", t.0));
+    println!("{:>16}", "engine/bitsets");
+    for name in days::NAMES {
+        let day = Day::named(name);
+        compare_traces(name, &day);
+        let [engine, bitsets] = TRACES.map(|(way, _)| median(101, ready(way, &day).expect("a trace")));
+        println!("{name:<20}{engine:>12.1}{bitsets:>12.1}{:>16.2}", engine / bitsets);
+    }
+}
+
 fn other_table() {
     print!("{:<20}", "other calls, µs");
     OTHERS.iter().for_each(|call| print!("{call:>12}"));
@@ -116,6 +139,8 @@ fn tables() {
     report_table();
     println!();
     plan_table();
+    println!();
+    trace_table();
     println!();
     other_table();
 }

@@ -1,8 +1,9 @@
-//! Other ways to make the report and the plan, each with the checks of the call and the encoding: 10, 8, 11 and 9 for a report, and for a plan also 13
-//! and 14.
+//! Other ways to make the report, the plan and the trace, each with the checks of the call and the encoding: 10, 8, 11 and 9 for a report, for a plan
+//! also 13 and 14, and for a trace also 22.
 
 pub mod algorithm2;
 pub mod bitset_plan;
+pub mod bitset_trace;
 pub mod bitsets;
 pub mod lists;
 
