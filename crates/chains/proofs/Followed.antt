@@ -5,7 +5,7 @@ use mathlib.Core.Logic.{by-cases}
 use Prim.Native.Nat.{ℕ, zero, suc, _≤_, _<_}
 use native.Mathlib.Decide.{ℕ-discrete}
 use native.Mathlib.Omega.{arith}
-use Rattle.chains.specs.Chains.{Chain, first, next}
+use Rattle.chains.specs.Chains.{first, next}
 use Rattle.chains.specs.Traces.{never, tickIn, sourceIn, Other, PassesOn, as-index, as-reached, IsSource, FollowedBack}
 
 module _ {Meet : ℕ → ℕ → ℕ → Type 0} {n index s : ℕ} {l : List ℕ} (below : (t u v : ℕ) → Meet t u v → u < n) (start : tickIn l index ≡ s)

@@ -1,6 +1,6 @@
 -- Laws of what is judged before 9: the index and the start tick.
 use mathlib.Core.Path.{_≡_, sym}
-use mathlib.Core.Bool.{Bool, true}
+use mathlib.Core.Bool.{true}
 use mathlib.Core.List.{List}
 use Prim.Native.Nat.{ℕ, _≤_, _<_}
 use lib.Dec.{ltb}
@@ -9,7 +9,7 @@ use Rattle.sets.specs.Bools.{isnt}
 use Rattle.sets.specs.Members.{capacity}
 use Rattle.sets.proofs.Bools.{and-in, and-left, and-right, to-false, isnt-false}
 use Rattle.records.specs.Limits.{maxTicks}
-use Rattle.records.specs.Outcomes.{refused, success, refuseIf, andThen}
+use Rattle.records.specs.Outcomes.{refused, success, refuseIf}
 use Rattle.records.proofs.WithinLimits.{limits-of}
 use Rattle.records.proofs.Outcomes.{refuse-passed, then-passed, success-same}
 use Rattle.days.proofs.Checks.{check-passed}

@@ -1,12 +1,12 @@
 -- Laws of the trace as it is stated: other contacts that are the same, and a later start.
-use mathlib.Core.Path.{_≡_, sym, subst}
+use mathlib.Core.Path.{sym, subst}
 use mathlib.Core.List.{List}
-use mathlib.Core.Logic.{_↔_, by-cases}
+use mathlib.Core.Logic.{by-cases}
 use Prim.Native.Nat.{ℕ, _≤_, _<_}
 use native.Mathlib.Decide.{decLt, ℕ-discrete}
 use native.Mathlib.Omega.{arith}
-use Rattle.chains.specs.Chains.{Chain, Earliest}
-use Rattle.chains.specs.Traces.{never, tickIn, sourceIn, Other, IsSource, IsTrace}
+use Rattle.chains.specs.Chains.{Earliest}
+use Rattle.chains.specs.Traces.{never, tickIn, Other, IsSource, IsTrace}
 use Rattle.chains.proofs.Chains.{chain-map, chain-earlier, by-sources-map}
 use Rattle.chains.proofs.TraceUnique.{tick-most, tick-arrived}
 

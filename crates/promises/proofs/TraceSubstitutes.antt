@@ -23,7 +23,7 @@ use Rattle.chains.specs.Judging.{StartOfDay}
 use Rattle.chains.proofs.TraceUnique.{tick-arrived, trace-only}
 use Rattle.trace.specs.Tracing.{Traces}
 use Rattle.promises.specs.D1.{badges}
-use Rattle.promises.specs.Tracing.{ChainBy, first, next, WithEqualTicks, AfterStart, InAnyOrder, TicksBy, LargestSources, TicksWithEqual, TicksAfterStart, TicksInAnyOrder, SourcesLargest, risingWords, fallingWords, atOnceWords, twoSourcesWords}
+use Rattle.promises.specs.Tracing.{first, next, WithEqualTicks, AfterStart, InAnyOrder, TicksBy, LargestSources, TicksWithEqual, TicksAfterStart, TicksInAnyOrder, SourcesLargest, risingWords, fallingWords, atOnceWords, twoSourcesWords}
 
 -- ---- of any contacts
 

@@ -1,5 +1,5 @@
 -- The loop over the ticks: before the turn of tick t the ticks from the start tick to the one before it are swept.
-use mathlib.Core.Path.{_≡_, sym, ap, ap₂, _∙_, subst}
+use mathlib.Core.Path.{_≡_, sym, ap, _∙_, subst}
 use mathlib.Core.List.{List}
 use mathlib.Core.Logic.{by-cases, ⊎-elim}
 use Prim.Native.Nat.{ℕ, suc, _+_, _-_, _*_, _≤_, _<_}
@@ -7,7 +7,7 @@ use native.Mathlib.Decide.{ℕ-discrete}
 use native.Mathlib.Omega.{arith}
 use lib.ListN.{length, getD, take, drop, set, replicate, length-drop, length-set, length-replicate, getD-replicate}
 use lib.Seq.{getD-set-same, getD-set-other, length-take-le}
-use Rattle.sets.specs.Sets.{intersection, difference, only, smallest}
+use Rattle.sets.specs.Sets.{intersection, only, smallest}
 use Rattle.sets.specs.Members.{capacity, insert}
 use Rattle.sets.specs.Tables.{piecewise}
 use Rattle.sets.proofs.Sets.{in-only, of-only, not-in-none, in-union-right, of-union, ext, insert-in}

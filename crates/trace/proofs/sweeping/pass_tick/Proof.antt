@@ -1,13 +1,12 @@
 -- `pass_tick` meets its contract. Its loop's invariant: ticks, sources and the set of those reached are those after the tick, but for the unseen badges.
 -- It ends as the unseen badges get fewer.
-use mathlib.Core.Path.{_≡_, refl, sym, ap, ap₂, _∙_}
-use Prim.Native.Nat.{ℕ, _+_, _^_, _<_, min}
+use mathlib.Core.Path.{_≡_, refl, ap, _∙_}
+use Prim.Native.Nat.{ℕ, _+_, _<_, min}
 use native.Mathlib.Omega.{arith}
 use lib.ListN.{length, getD}
 use borrow.Author.Needs.{needs}
 use Rattle.sets.specs.Sets.{In, intersection, difference, only, full, size}
 use Rattle.sets.specs.Members.{capacity, members}
-use Rattle.sets.proofs.Sets.{of-full, of-difference}
 use Rattle.sets.proofs.Size.{size-without}
 use Rattle.sets.proofs.Walks.{rest-is, none-unseen}
 use Rattle.trace.proofs.Turns.{shown-long, Turned, all, turned-none, turned-at, turned-more, turned-done}

@@ -1,5 +1,5 @@
 -- `trace` meets its contract: the refusal of the check, or what the index and the start tick come to; and so the bytes are the trace.
-use mathlib.Core.Path.{_≡_, sym, ap, _∙_}
+use mathlib.Core.Path.{sym, ap, _∙_}
 use borrow.Author.Needs.{needs}
 use Rattle.days.specs.Days.{LentDay}
 use Rattle.days.proofs.Checks.{check-passed}

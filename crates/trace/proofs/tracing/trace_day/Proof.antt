@@ -1,6 +1,6 @@
 -- `trace_day` meets its contract: an index or a start tick outside the day is refused by 22, and a buffer of fewer than 2n bytes by 9; else the sweep puts
 -- the trace into the first 2n bytes.
-use mathlib.Core.Path.{_≡_, sym, ap, _∙_}
+use mathlib.Core.Path.{sym, ap, _∙_}
 use mathlib.Core.List.{List, _++_}
 use Prim.Native.Nat.{ℕ, _+_}
 use native.Mathlib.Omega.{arith}
