@@ -182,7 +182,7 @@ module _ (n T : ℕ) (ws : List ℕ) (index s : ℕ) (d : StartOfDay n T ws inde
 
   pub trace-long : length bytes ≡ n + n
   unfolding traceBytes
-  trace-long = first-length n tick source
+  trace-long = first-length n _ _
 
   at-tick : (u : ℕ) → u < n → tickIn bytes u ≡ tick u
   unfolding traceBytes

@@ -58,7 +58,7 @@ pub record IsTrace (Meet : ℕ → ℕ → ℕ → Type 0) (n index s : ℕ) (l 
   -- "A tick is given only if a chain exists, and no chain arrives sooner", "and 255 if never"
   pub reached : (u : ℕ) → Other n index u → tickIn l u < never → Earliest Meet index s u (tickIn l u)
   pub unreached : (u : ℕ) → Other n index u → (tickIn l u ≡ never) ↔ ((t : ℕ) → Chain Meet index s u t → ⊥)
-  -- "Each reached badge other than the index also shows its source", by which it is led back to the index, "and 255 where there is none"
+  -- "Each reached badge other than the index also shows its source", and the sources lead back to the index; "and 255 where there is none"
   pub source : (u : ℕ) → Other n index u → tickIn l u < never → IsSource Meet index s (tickIn l) (tickIn l u) u (sourceIn n l u)
   pub back : (u : ℕ) → Other n index u → tickIn l u < never → FollowedBack Meet n index s l u
   pub no-source : (u : ℕ) → Other n index u → tickIn l u ≡ never → sourceIn n l u ≡ noSource

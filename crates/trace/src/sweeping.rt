@@ -10,10 +10,10 @@ ghost use Rattle.chains.specs.Judging.{StartOfDay};
 ghost use Rattle.trace.specs.Steps.{shown, reachedBy, PassedTick};
 use sets::BadgeSet;
 
-// What the trace says of a badge that nobody reaches, twice: no tick, and no source.
+// In a trace: the tick of a badge that is never reached, and the source of a badge that has none.
 const NONE: u8 = 255;
 
-// Nobody is reached.
+// Every byte says that nobody is reached.
 fn clear(trace: &mut [u8])
     ensures { λ _. ⌜ now (trace .exit) ≡ replicate (length (now (trace .entry))) never ⌝ }
 {
@@ -65,7 +65,7 @@ fn pass_tick(trace: &mut [u8], tick: &[u64], t: u8, passing: BadgeSet) -> BadgeS
     reached
 }
 
-// Puts the trace from the index and the start tick on into its bytes: before the start tick the index alone may pass on.
+// Puts the trace from the index and the start tick on into its bytes: in the start tick the index alone may pass on.
 pub(crate) fn sweep(
     trace: &mut [u8],
     words: &[u64],
