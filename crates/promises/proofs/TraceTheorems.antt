@@ -19,7 +19,6 @@ use Rattle.records.proofs.Meaning.{contact-swap}
 use Rattle.days.specs.Days.{LentDay}
 use Rattle.days.specs.Calls.{Read, checkOf}
 use Rattle.days.proofs.Days.{neighbours-append}
-use Rattle.records.proofs.Outcomes.{refused-success}
 use Rattle.days.proofs.Checks.{check-day, check-passed, check-rest}
 use Rattle.log.specs.Buffers.{Delivered}
 use Rattle.chains.specs.Chains.{Contact, Chain}
@@ -57,49 +56,42 @@ judged n T ws index s buffer = go (checkOf n T ws) refl
     go (refused number offset) e = by-check number offset e
     go (success x) e = started (check-passed n T ws e)
 
--- Two lent days with the same contacts have the same trace, by two calls that keep the promise.
+-- Words that the check judges alike, and that have the same contacts, are answered alike by two calls that keep the promise, whatever else was handed over
+-- and lent.
 module _ {call other : ℕ → ℕ → List ℕ → ℕ → ℕ → List ℕ → Delivered} {bytes bytes′ : ℕ → ℕ → List ℕ → ℕ → ℕ → List ℕ} (p : Traces call bytes) (q : Traces other bytes′) where
-  module _ {n T : ℕ} {xs ys : List ℕ} (there : (t u v : ℕ) → Contact n T xs t u v → Contact n T ys t u v) (back : (t u v : ℕ) → Contact n T ys t u v → Contact n T xs t u v) (lent : LentDay n T ys) where
-    moved : {index s : ℕ} → StartOfDay n T xs index s → StartOfDay n T ys index s
-    moved d = record { lent = lent; badge = d .badge; tick = d .tick }
-
-    same-bytes : {index s : ℕ} → StartOfDay n T xs index s → bytes n T xs index s ≡ bytes′ n T ys index s
-    same-bytes {index} {s} d = trace-unique n index s (λ t u v c. c .one) (trace-map there back (p .stated n T xs index s d)) (q .stated n T ys index s (moved d))
-
-    pub same-contacts : LentDay n T xs → (index s : ℕ) (buffer : List ℕ) → call n T xs index s buffer ≡ other n T ys index s buffer
-    same-contacts given index s buffer = go (judged n T xs index s buffer)
-      where
-        go : Judged n T xs index s buffer → call n T xs index s buffer ≡ other n T ys index s buffer
-        go (by-check number offset e) = absurd (refused-success (sym e ∙ check-day n T xs (given .limits) (given .enough) (given .day)))
-        go (by-22 d f) = p .judges n T xs index s buffer d f ∙ sym (q .judges n T ys index s buffer lent f)
-        go (by-9 d h) = p .measures n T xs index s buffer d h ∙ sym (q .measures n T ys index s buffer (moved d) h)
-        go (passed d h) =
-            p .succeeds n T xs index s buffer d h ∙ ap (λ (x : List ℕ). record { answer = success (n + n); buffer = x ++ drop (n + n) buffer }) (same-bytes d) ∙ sym (q .succeeds n T ys index s buffer (moved d) h)
-
-  -- The same words are answered alike by both, whatever was handed over and lent,
-  pub same-words : (n T : ℕ) (ws : List ℕ) (index s : ℕ) (buffer : List ℕ) → call n T ws index s buffer ≡ other n T ws index s buffer
-  same-words n T ws index s buffer = go (checkOf n T ws) refl
+  pub same-contacts : {n T : ℕ} {xs ys : List ℕ} → checkOf n T xs ≡ checkOf n T ys
+      → ((t u v : ℕ) → Contact n T xs t u v → Contact n T ys t u v) → ((t u v : ℕ) → Contact n T ys t u v → Contact n T xs t u v)
+      → (index s : ℕ) (buffer : List ℕ) → call n T xs index s buffer ≡ other n T ys index s buffer
+  same-contacts {n} {T} {xs} {ys} same there back index s buffer = go (judged n T xs index s buffer)
     where
-      go : (o : Outcome (Unit {0})) → checkOf n T ws ≡ o → call n T ws index s buffer ≡ other n T ws index s buffer
-      go (refused number offset) e = p .checks n T ws index s buffer number offset e ∙ sym (q .checks n T ws index s buffer number offset e)
-      go (success x) e = let d = check-passed n T ws e in same-contacts (λ t u v c. c) (λ t u v c. c) d d index s buffer
+      moved : LentDay n T xs → LentDay n T ys
+      moved d = check-passed n T ys (sym same ∙ check-day n T xs (d .limits) (d .enough) (d .day))
 
-  -- and so are words that differ after the first n×T alone.
-  pub rest-same : (n T : ℕ) (ws xs ys : List ℕ) → length ws ≡ wordsFor n T → (index s : ℕ) (buffer : List ℕ) → call n T (ws ++ xs) index s buffer ≡ other n T (ws ++ ys) index s buffer
-  rest-same n T ws xs ys l index s buffer = go (checkOf n T (ws ++ ys)) refl
-    where
-      contact : (one two : List ℕ) (t u v : ℕ) → Contact n T (ws ++ one) t u v → Contact n T (ws ++ two) t u v
-      contact one two t u v c = record {
-        tick = c .tick;
-        one = c .one;
-        other = c .other;
-        meet = subst (λ (x : ℕ). In x v) (neighbours-append n T ws one t u l (c .tick) (c .one) ∙ sym (neighbours-append n T ws two t u l (c .tick) (c .one))) (c .meet);
-      }
+      started : StartOfDay n T xs index s → StartOfDay n T ys index s
+      started d = record { lent = moved (d .lent); badge = d .badge; tick = d .tick }
 
-      go : (o : Outcome (Unit {0})) → checkOf n T (ws ++ ys) ≡ o → call n T (ws ++ xs) index s buffer ≡ other n T (ws ++ ys) index s buffer
-      go (refused number offset) e = p .checks n T (ws ++ xs) index s buffer number offset (check-rest n T ws xs ys l ∙ e) ∙ sym (q .checks n T (ws ++ ys) index s buffer number offset e)
-      go (success x) e =
-          same-contacts (contact xs ys) (contact ys xs) (check-passed n T (ws ++ ys) e) (check-passed n T (ws ++ xs) (check-rest n T ws xs ys l ∙ e)) index s buffer
+      same-bytes : StartOfDay n T xs index s → bytes n T xs index s ≡ bytes′ n T ys index s
+      same-bytes d = trace-unique n index s (λ t u v c. c .one) (trace-map there back (p .stated n T xs index s d)) (q .stated n T ys index s (started d))
+
+      go : Judged n T xs index s buffer → call n T xs index s buffer ≡ other n T ys index s buffer
+      go (by-check number offset e) = p .checks n T xs index s buffer number offset e ∙ sym (q .checks n T ys index s buffer number offset (sym same ∙ e))
+      go (by-22 d f) = p .judges n T xs index s buffer d f ∙ sym (q .judges n T ys index s buffer (moved d) f)
+      go (by-9 d h) = p .measures n T xs index s buffer d h ∙ sym (q .measures n T ys index s buffer (started d) h)
+      go (passed d h) =
+          p .succeeds n T xs index s buffer d h ∙ ap (λ (x : List ℕ). record { answer = success (n + n); buffer = x ++ drop (n + n) buffer }) (same-bytes d) ∙ sym (q .succeeds n T ys index s buffer (started d) h)
+
+-- two lent days are judged alike
+lent-same : {n T : ℕ} {xs ys : List ℕ} → LentDay n T xs → LentDay n T ys → checkOf n T xs ≡ checkOf n T ys
+lent-same x y = check-day _ _ _ (x .limits) (x .enough) (x .day) ∙ sym (check-day _ _ _ (y .limits) (y .enough) (y .day))
+
+-- words that differ after the first n×T alone have the same contacts
+rest-contact : (n T : ℕ) (ws xs ys : List ℕ) → length ws ≡ wordsFor n T → (t u v : ℕ) → Contact n T (ws ++ xs) t u v → Contact n T (ws ++ ys) t u v
+rest-contact n T ws xs ys l t u v c = record {
+  tick = c .tick;
+  one = c .one;
+  other = c .other;
+  meet = subst (λ (x : ℕ). In x v) (neighbours-append n T ws xs t u l (c .tick) (c .one) ∙ sym (neighbours-append n T ws ys t u l (c .tick) (c .one))) (c .meet);
+}
 
 -- words that hold a day of contacts have just these contacts, and so just the chains over these
 module _ {n T : ℕ} {Met : ℕ → ℕ → ℕ → Type 0} {lent ws : List ℕ} (h : HoldsDay n T Met lent ws) (below : (t u v : ℕ) → Met t u v → (t < T) × (u < n) × (v < n)) where
@@ -156,7 +148,7 @@ module _ {read : List ℕ → List ℕ → Read} (reads : Reads read) {call : �
       → wordsFor n T ≤ length lent → wordsFor n T ≤ length lent′ → (index s : ℕ) (buffer : List ℕ)
       → call n T (read log lent .words) index s buffer ≡ call n′ T′ (read log′ lent′ .words) index s buffer
   same-meaning {log} {log′} {n} {T} {n′} {T′} {cts} {cts′} lent lent′ l l′ m h h′ index s buffer =
-      rw (← m .badges, ← m .ticks) (same-contacts p p there back (log-lent reads k h′) (log-lent reads l h) index s buffer)
+      rw (← m .badges, ← m .ticks) (same-contacts p p (lent-same (log-lent reads l h) (log-lent reads k h′)) there back index s buffer)
     where
       k : IsLog log′ n T cts′
       k = subst (λ (N : ℕ). IsLog log′ N T cts′) (sym (m .badges)) (subst (λ (S : ℕ). IsLog log′ n′ S cts′) (sym (m .ticks)) l′)
@@ -170,11 +162,11 @@ module _ {read : List ℕ → List ℕ → Read} (reads : Reads read) {call : �
 module _ {call : ℕ → ℕ → List ℕ → ℕ → ℕ → List ℕ → Delivered} {bytes : ℕ → ℕ → List ℕ → ℕ → ℕ → List ℕ} (p : Traces call bytes) where
   -- The promise leaves no choice, for any input.
   pub no-choice : (n T : ℕ) (ws : List ℕ) (index s : ℕ) (buffer : List ℕ) → call n T ws index s buffer ≡ traceOf n T ws index s buffer
-  no-choice = same-words p traces
+  no-choice n T ws = same-contacts p traces refl (λ t u v c. c) (λ t u v c. c)
 
   -- Words after the first n×T make no difference.
   pub trace-rest : (n T : ℕ) (ws xs ys : List ℕ) → length ws ≡ wordsFor n T → (index s : ℕ) (buffer : List ℕ) → call n T (ws ++ xs) index s buffer ≡ call n T (ws ++ ys) index s buffer
-  trace-rest = rest-same p p
+  trace-rest n T ws xs ys l = same-contacts p p (check-rest n T ws xs ys l) (rest-contact n T ws xs ys l) (rest-contact n T ws ys xs l)
 
   -- A later start never reaches a badge sooner: its tick, which is 255 where it is never reached, is no smaller.
   pub never-sooner : {n T : ℕ} {ws : List ℕ} {index s later : ℕ} → StartOfDay n T ws index s → s ≤ later → later < T → (u : ℕ) → u < n
