@@ -1,6 +1,6 @@
 -- `reach` meets its contract: where noSource is there to pass on nothing changes, and else the badge has its tick and its source, which fits a byte.
 use mathlib.Core.Path.{_≡_, sym, ap, _∙_}
-use Prim.Native.Nat.{ℕ, _+_}
+use Prim.Native.Nat.{ℕ, _+_, _<_}
 use native.Mathlib.Omega.{arith}
 use lib.Dec.{eqb}
 use lib.ListN.{set, length-set}
@@ -18,6 +18,10 @@ intersection-requires c κs = search needs
 -- those who pass on and are in contact with the badge
 abbrev from : tie.Start → ℕ
 from s = intersection (members (s .args .row)) (members (s .args .passing))
+
+-- the smallest badge of a set is at most the capacity
+smallest-byte : (s : ℕ) {x : ℕ} → x ≡ smallest capacity s → x < 256
+smallest-byte s e = omega (arith, smallest-le capacity s)
 
 is-empty-requires : tie.Need-is-empty-requires
 is-empty-requires c κs = search needs
@@ -40,15 +44,13 @@ smallest-requires : tie.Need-smallest-requires
 smallest-requires c κs = search needs
 
 cast-trace : tie.Need-cast-trace
-cast-trace c = omega (arith, smallest-le capacity (members (c .before .before .before .intersection .result)), c .smallest .ensures)
+cast-trace c = omega (arith, smallest-byte _ (c .smallest .ensures))
 
 add-trace : tie.Need-add-trace
 add-trace c = search needs
 
 slice-write-trace-2 : tie.Need-slice-write-trace-2
-slice-write-trace-2 c =
-    let s = c .before .before .before .before .before in
-    omega (arith, length-set (s .args .trace .now) (s .args .u) (s .args .t), s .pre .0, s .pre .2)
+slice-write-trace-2 c = let s = c .before .before .before .before .before in simp length-set (omega (arith, s .pre .0, s .pre .2))
 
 with-requires : tie.Need-with-requires
 with-requires c κs = search needs
