@@ -4,6 +4,7 @@ use Rattle.sets.specs.Bools.{_and_, _or_, isnt, all}
 use Rattle.sets.specs.Sets.{bit, isSub, intersection, union, difference, only, setOf, full, filterIn, filter, sizeIn, size, smallest}
 use Rattle.sets.specs.Bytes.{littleEndian, fromLittleEndian}
 use Rattle.sets.specs.Tables.{tabulate, concatBelow, keepIf, piecewise}
+use Rattle.sets.specs.Words.{fromWords, toWords, setAt, wordsOf}
 use Rattle.records.specs.Limits.{withinLimits}
 use Rattle.records.specs.Records.{fieldsOf, encode, encodeAll, isMark, markFrom, recordFrom, decodeMarked, decode}
 use Rattle.records.specs.Outcomes.{refuseIf, andThen}
@@ -11,7 +12,7 @@ use Rattle.records.specs.Judging.{validContact, judgeKind, judgeValues, judgeDe
 use Rattle.records.specs.Meaning.{badgesOf, ticksOf, contactsOf, covers, inContact}
 use Rattle.records.specs.Verdicts.{valuesOf}
 use Rattle.records.specs.Logs.{logRecords}
-use Rattle.days.specs.Days.{neighbours, adjacent, tickWords, dayWords, dayOf, isTick, isDay}
+use Rattle.days.specs.Days.{neighbours, adjacent, tickSets, daySets, dayWords, dayOf, isTick, isDay}
 use Rattle.days.specs.Calls.{readJudged, readOf, checkOf}
 use Rattle.series.specs.Series.{parts, judgeLogs, badgesIn, ticksIn, haveSize, judgeSeries, commonSize}
 use Rattle.receivers.specs.Joining.{sum, joinable, judgeJoin, heardBy, quorum, joinedDay, joinJudged, joinOf}
@@ -53,12 +54,12 @@ use Rattle.cases.specs.Requests.{triple, couple, nobody, without2, witho
 
 -- sets and lists
 sets-computing : ℕ
-unfolding _and_ _or_ isnt all bit isSub intersection union difference only setOf full filterIn filter sizeIn size smallest littleEndian fromLittleEndian tabulate concatBelow keepIf piecewise
+unfolding _and_ _or_ isnt all bit isSub intersection union difference only setOf full filterIn filter sizeIn size smallest littleEndian fromLittleEndian tabulate concatBelow keepIf piecewise fromWords toWords setAt wordsOf
 sets-computing = 0
 
 -- records, judging a log, days, tidy logs and the calls of the log part
 log-computing : ℕ
-unfolding sets-computing withinLimits fieldsOf encode encodeAll isMark markFrom recordFrom decodeMarked decode refuseIf andThen validContact judgeKind judgeValues judgeDecoded judgeRecord prepend judgeIn judgeFrom judge badgesOf ticksOf contactsOf covers inContact valuesOf logRecords neighbours adjacent tickWords dayWords dayOf isTick isDay runStart runEnds runAt runsOf rowRuns tidyContacts tidyLog deliver readJudged readOf checkOf parts judgeLogs badgesIn ticksIn haveSize judgeSeries commonSize sum joinable judgeJoin heardBy quorum joinedDay joinJudged joinOf writeJudged writeOf tidyBefore9 tidyOf
+unfolding sets-computing withinLimits fieldsOf encode encodeAll isMark markFrom recordFrom decodeMarked decode refuseIf andThen validContact judgeKind judgeValues judgeDecoded judgeRecord prepend judgeIn judgeFrom judge badgesOf ticksOf contactsOf covers inContact valuesOf logRecords neighbours adjacent tickSets daySets dayWords dayOf isTick isDay runStart runEnds runAt runsOf rowRuns tidyContacts tidyLog deliver readJudged readOf checkOf parts judgeLogs badgesIn ticksIn haveSize judgeSeries commonSize sum joinable judgeJoin heardBy quorum joinedDay joinJudged joinOf writeJudged writeOf tidyBefore9 tidyOf
 log-computing = 0
 
 -- the trace

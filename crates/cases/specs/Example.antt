@@ -2,6 +2,7 @@
 use mathlib.Core.List.{List, [], _∷_, _++_}
 use Prim.Native.Nat.{ℕ}
 use lib.ListN.{replicate}
+use Rattle.sets.specs.Words.{wordsOf}
 use Rattle.sets.specs.Sets.{full}
 use Rattle.records.specs.Outcomes.{success}
 use Rattle.chains.specs.Traces.{never, noSource}
@@ -18,11 +19,11 @@ exampleLog = BH 5 4 ++ CT 2 0 0 1 ++ CT 0 1 0 2 ++ CT 1 2 0 1 ++ CT 2 1 2 2 ++ C
 
 -- its day in words, tick after tick
 unfoldable pub exampleWords : List ℕ
-exampleWords =
+exampleWords = wordsOf (
     (badges (1 ∷ 2 ∷ []) ∷ badges (0 ∷ 2 ∷ []) ∷ badges (0 ∷ 1 ∷ []) ∷ badges [] ∷ badges [] ∷ [])
     ++ (badges (1 ∷ 2 ∷ []) ∷ badges (0 ∷ 2 ∷ []) ∷ badges (0 ∷ 1 ∷ []) ∷ badges (4 ∷ []) ∷ badges (3 ∷ []) ∷ [])
     ++ (badges (1 ∷ []) ∷ badges (0 ∷ 2 ∷ []) ∷ badges (1 ∷ []) ∷ badges (4 ∷ []) ∷ badges (3 ∷ []) ∷ [])
-    ++ (badges [] ∷ badges [] ∷ badges [] ∷ badges (4 ∷ []) ∷ badges (3 ∷ []) ∷ [])
+    ++ (badges [] ∷ badges [] ∷ badges [] ∷ badges (4 ∷ []) ∷ badges (3 ∷ []) ∷ []))
 
 -- its tidy log
 unfoldable pub exampleTidy : List ℕ
@@ -37,11 +38,11 @@ westLog = BH 5 4 ++ CT 4 3 1 3 ++ CT 0 1 1 2 ++ CT 2 0 1 1 ++ CT 1 2 1 2 ++ ED 4
 
 -- what both heard
 unfoldable pub bothWords : List ℕ
-bothWords =
+bothWords = wordsOf (
     (badges [] ∷ badges [] ∷ badges [] ∷ badges [] ∷ badges [] ∷ [])
     ++ (badges (1 ∷ 2 ∷ []) ∷ badges (0 ∷ 2 ∷ []) ∷ badges (0 ∷ 1 ∷ []) ∷ badges [] ∷ badges [] ∷ [])
     ++ (badges (1 ∷ []) ∷ badges (0 ∷ 2 ∷ []) ∷ badges (1 ∷ []) ∷ badges (4 ∷ []) ∷ badges (3 ∷ []) ∷ [])
-    ++ (badges [] ∷ badges [] ∷ badges [] ∷ badges (4 ∷ []) ∷ badges (3 ∷ []) ∷ [])
+    ++ (badges [] ∷ badges [] ∷ badges [] ∷ badges (4 ∷ []) ∷ badges (3 ∷ []) ∷ []))
 
 unfoldable pub example : List Row
 example =

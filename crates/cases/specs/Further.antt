@@ -1,6 +1,7 @@
 -- Further cases, most of them about buffers of other sizes and the order of judging: they have no * in document 01. What a row says is in Rows.
 use mathlib.Core.List.{List, [], _∷_, _++_}
 use Prim.Native.Nat.{ℕ}
+use Rattle.sets.specs.Words.{wordsOf}
 use Rattle.sets.specs.Sets.{full}
 use Rattle.records.specs.Outcomes.{refused, success}
 use Rattle.sets.specs.Ascii.{ascii}
@@ -15,10 +16,10 @@ unfoldable pub nestedLog : List ℕ
 nestedLog = BH 4 3 ++ CT 2 3 0 2 ++ CT 0 1 1 1 ++ CT 0 2 1 1 ++ CT 1 2 1 1 ++ ED 4
 
 unfoldable pub nestedWords : List ℕ
-nestedWords =
+nestedWords = wordsOf (
     (badges [] ∷ badges [] ∷ badges (3 ∷ []) ∷ badges (2 ∷ []) ∷ [])
     ++ (badges (1 ∷ 2 ∷ []) ∷ badges (0 ∷ 2 ∷ []) ∷ badges (0 ∷ 1 ∷ 3 ∷ []) ∷ badges (2 ∷ []) ∷ [])
-    ++ (badges [] ∷ badges [] ∷ badges (3 ∷ []) ∷ badges (2 ∷ []) ∷ [])
+    ++ (badges [] ∷ badges [] ∷ badges (3 ∷ []) ∷ badges (2 ∷ []) ∷ []))
 
 unfoldable pub further : List Row
 further =

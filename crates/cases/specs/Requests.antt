@@ -2,6 +2,7 @@
 use mathlib.Core.List.{List, [], _∷_, _++_}
 use Prim.Native.Nat.{ℕ}
 use lib.ListN.{replicate}
+use Rattle.sets.specs.Words.{wordsOf}
 use Rattle.sets.specs.Sets.{full}
 use Rattle.records.specs.Outcomes.{refused, success}
 use Rattle.chains.specs.Traces.{never, noSource}
@@ -37,36 +38,36 @@ unfoldable pub missing : List ℕ
 missing = BH 4 3 ++ CT 3 2 0 2 ++ CT 2 0 0 1 ++ CT 2 1 0 1 ++ ED 3
 
 unfoldable pub missingWords : List ℕ
-missingWords =
+missingWords = wordsOf (
     (badges (2 ∷ []) ∷ badges (2 ∷ []) ∷ badges (0 ∷ 1 ∷ 3 ∷ []) ∷ badges (2 ∷ []) ∷ [])
     ++ (badges (2 ∷ []) ∷ badges (2 ∷ []) ∷ badges (0 ∷ 1 ∷ 3 ∷ []) ∷ badges (2 ∷ []) ∷ [])
-    ++ (badges [] ∷ badges [] ∷ badges (3 ∷ []) ∷ badges (2 ∷ []) ∷ [])
+    ++ (badges [] ∷ badges [] ∷ badges (3 ∷ []) ∷ badges (2 ∷ []) ∷ []))
 
 unfoldable pub repeating : List ℕ
 repeating = BH 4 3 ++ CT 2 3 0 2 ++ CT 2 3 0 2 ++ ED 2
 
 unfoldable pub repeatingWords : List ℕ
-repeatingWords =
+repeatingWords = wordsOf (
     (badges [] ∷ badges [] ∷ badges (3 ∷ []) ∷ badges (2 ∷ []) ∷ [])
     ++ (badges [] ∷ badges [] ∷ badges (3 ∷ []) ∷ badges (2 ∷ []) ∷ [])
-    ++ (badges [] ∷ badges [] ∷ badges (3 ∷ []) ∷ badges (2 ∷ []) ∷ [])
+    ++ (badges [] ∷ badges [] ∷ badges (3 ∷ []) ∷ badges (2 ∷ []) ∷ []))
 
 unfoldable pub fourTicks : List ℕ
 fourTicks = BH 4 4 ++ CT 0 1 0 1 ++ CT 0 2 0 1 ++ CT 1 2 0 1 ++ CT 2 3 0 2 ++ ED 4
 
 -- n 7, T 1: a triangle of badges 0, 1 and 2, with all pairs of 3, 4, 5 and 6 (a clique), and with 3–4, 4–5, 5–6 and 6–3 (a ring); n 4, T 1: 0–3 and 1–2
 unfoldable pub cliqueWords : List ℕ
-cliqueWords =
+cliqueWords = wordsOf (
     (badges (1 ∷ 2 ∷ []) ∷ badges (0 ∷ 2 ∷ []) ∷ badges (0 ∷ 1 ∷ []) ∷ [])
-    ++ (badges (4 ∷ 5 ∷ 6 ∷ []) ∷ badges (3 ∷ 5 ∷ 6 ∷ []) ∷ badges (3 ∷ 4 ∷ 6 ∷ []) ∷ badges (3 ∷ 4 ∷ 5 ∷ []) ∷ [])
+    ++ (badges (4 ∷ 5 ∷ 6 ∷ []) ∷ badges (3 ∷ 5 ∷ 6 ∷ []) ∷ badges (3 ∷ 4 ∷ 6 ∷ []) ∷ badges (3 ∷ 4 ∷ 5 ∷ []) ∷ []))
 
 unfoldable pub ringWords : List ℕ
-ringWords =
+ringWords = wordsOf (
     (badges (1 ∷ 2 ∷ []) ∷ badges (0 ∷ 2 ∷ []) ∷ badges (0 ∷ 1 ∷ []) ∷ [])
-    ++ (badges (4 ∷ 6 ∷ []) ∷ badges (3 ∷ 5 ∷ []) ∷ badges (4 ∷ 6 ∷ []) ∷ badges (3 ∷ 5 ∷ []) ∷ [])
+    ++ (badges (4 ∷ 6 ∷ []) ∷ badges (3 ∷ 5 ∷ []) ∷ badges (4 ∷ 6 ∷ []) ∷ badges (3 ∷ 5 ∷ []) ∷ []))
 
 unfoldable pub aroundWords : List ℕ
-aroundWords = badges (3 ∷ []) ∷ badges (2 ∷ []) ∷ badges (1 ∷ []) ∷ badges (0 ∷ []) ∷ []
+aroundWords = wordsOf (badges (3 ∷ []) ∷ badges (2 ∷ []) ∷ badges (1 ∷ []) ∷ badges (0 ∷ []) ∷ [])
 
 unfoldable pub requested : List Row
 requested =

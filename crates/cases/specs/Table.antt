@@ -3,6 +3,7 @@
 use mathlib.Core.List.{List, [], _∷_, _++_}
 use Prim.Native.Nat.{ℕ}
 use lib.ListN.{replicate}
+use Rattle.sets.specs.Words.{wordsOf}
 use Rattle.sets.specs.Sets.{full}
 use Rattle.records.specs.Outcomes.{Outcome, refused, success}
 use Rattle.records.specs.Verdicts.{Values}
@@ -41,16 +42,16 @@ unfoldable pub changingLog : List ℕ
 changingLog = BH 3 2 ++ CT 0 1 0 0 ++ CT 0 2 1 1 ++ ED 2
 
 unfoldable pub changingWords : List ℕ
-changingWords =
+changingWords = wordsOf (
     (badges (1 ∷ []) ∷ badges (0 ∷ []) ∷ badges [] ∷ [])
-    ++ (badges (2 ∷ []) ∷ badges [] ∷ badges (0 ∷ []) ∷ [])
+    ++ (badges (2 ∷ []) ∷ badges [] ∷ badges (0 ∷ []) ∷ []))
 
 -- "A log without CT", and its words: no badge is in contact in any tick
 unfoldable pub emptyLog : List ℕ
 emptyLog = BH 4 3 ++ ED 0
 
 unfoldable pub emptyWords : List ℕ
-emptyWords = replicate 12 (badges [])
+emptyWords = wordsOf (replicate 12 (badges []))
 
 -- "A first CT 0–0"
 unfoldable pub equalBadges : List ℕ

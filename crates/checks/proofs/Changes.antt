@@ -12,7 +12,9 @@ use lib.ListN.{length, getD, take, drop, length-take, length-drop}
 use Rattle.sets.specs.Sets.{In, symmetricDifference, full}
 use Rattle.sets.specs.Members.{capacity}
 use Rattle.sets.specs.Tables.{tabulate, piecewise}
+use Rattle.sets.specs.Words.{setWords, setAt}
 use Rattle.sets.proofs.Sets.{not-in-none, in-full, in-symmetric-left, in-symmetric-right, of-symmetric, symmetric-twice}
+use Rattle.sets.proofs.Places.{one-word}
 use Rattle.sets.proofs.Tables.{tabulate-at, piecewise-in}
 use Rattle.days.specs.Days.{neighbours, IsTick}
 use Rattle.checks.specs.Arrays.{tickOver}
@@ -28,6 +30,13 @@ words-before n (suc t) f = rw suc-mul (omega arith)
 abbrev part : ℕ → ℕ → List ℕ → List ℕ
 part from to ws = take (to - from) (drop from ws)
 
+-- the words of a tick are its badges' neighbours
+word-part : (n : ℕ) (ws : List ℕ) (t w u : ℕ) → u < w → getD (take w (drop (t * n) ws)) u 0 ≡ neighbours n ws t u
+word-part n ws t w u l =
+    let a : w ≡ w * setWords = omega arith in
+    let b : t * n ≡ t * n * setWords = omega arith in
+    one-word (take w (drop (t * n) ws)) u ∙ ap₂ (λ (x y : ℕ). setAt (take x (drop y ws)) u) a b ∙ neighbours-part n ws t w u l
+
 -- Rows with the words of tick 0 over them have the changes of tick 0, and rows with a later tick's differences from the tick before over them have
 -- those of that tick.
 module _ (n : ℕ) (ws : List ℕ) (t : ℕ) (few : n ≤ capacity) (whole : t * n + n ≤ length ws) where
@@ -36,7 +45,7 @@ module _ (n : ℕ) (ws : List ℕ) (t : ℕ) (few : n ≤ capacity) (whole : t *
   tick = part (t * n) (t * n + n) ws
 
   at-tick : (u : ℕ) → u < n → getD tick u 0 ≡ neighbours n ws t u
-  at-tick u l = neighbours-part n ws t _ u (let k : u < t * n + n - t * n = omega arith in k)
+  at-tick u l = word-part n ws t _ u (let k : u < t * n + n - t * n = omega arith in k)
 
   -- the row of a badge below n is what is put there
   put-at : (f g : ℕ → ℕ) {rows : List ℕ} (u : ℕ) → u < n → rows ≡ tabulate capacity (piecewise (full (length tick)) f g) → getD rows u 0 ≡ f u
@@ -57,7 +66,7 @@ module _ (n : ℕ) (ws : List ℕ) (t : ℕ) (few : n ≤ capacity) (whole : t *
       before (suc t) f u l =
           let from : suc t * n - n ≡ t * n = omega (arith, suc-mul t n) in
           let size : suc t * n - t * n ≡ n = omega (arith, suc-mul t n) in
-          rw (from, size) (neighbours-part n ws t n u l)
+          rw (from, size) (word-part n ws t n u l)
 
 -- the differences of two ticks of a day are those of a tick
 tick-difference : (n : ℕ) (p q : ℕ → ℕ) → IsTick n p → IsTick n q → IsTick n (λ u. symmetricDifference (p u) (q u))

@@ -11,6 +11,7 @@ use crate::rows::united;
 use records::Refusal;
 use records::within_limits;
 use sets::BadgeSet;
+use sets::SET_WORDS;
 
 // Whether words are those of a day of n badges and T ticks.
 pub enum Checked {
@@ -65,7 +66,7 @@ pub fn check_words(words: &[u64], badges: usize, ticks: usize) -> Checked
     if !within_limits(badges, ticks) {
         return Checked::Refused(Refusal::SizeOutOfLimits);
     }
-    if words.len() < ticks * badges {
+    if words.len() < ticks * badges * SET_WORDS {
         return Checked::Refused(Refusal::TooFewWords);
     }
     if !is_day(words, badges, ticks) {

@@ -1,4 +1,4 @@
--- Laws of marking contacts in the words: one badge in one word, a pair in one tick, the ticks of a contact one by one (the loop of
+-- Laws of marking contacts in the words: one badge in one set, a pair in one tick, the ticks of a contact one by one (the loop of
 -- mark_contact), and a whole record.
 use mathlib.Core.Path.{_≡_, refl, sym, ap, _∙_}
 use mathlib.Core.Bool.{Bool, true, false}
@@ -11,14 +11,16 @@ use native.Mathlib.Numerals.{add-one}
 use native.Mathlib.Omega.{arith}
 use lib.Dec.{eqb, ltb}
 use lib.Arith.{digits-div, digits-mod, digits-lt}
-use lib.ListN.{length, getD, set, length-set, List·getD-append}
-use lib.Seq.{getD-set-same, getD-set-other, set-append-left}
+use lib.ListN.{length, getD, set, length-set}
+use lib.Seq.{getD-set-same, getD-set-other}
 use borrow.Author.Tests.{ltb-true, lt-ltb, eqb-true, eq-eqb}
 use Rattle.sets.specs.Bools.{_and_, _or_}
-use Rattle.sets.specs.Sets.{In, union, only}
+use Rattle.sets.specs.Sets.{In, union, only, setOf}
+use Rattle.sets.specs.Words.{setWords, setAt, putSet, wordsOf}
 use Rattle.sets.specs.Members.{capacity, insert}
 use Rattle.sets.proofs.Bools.{and-in, and-left, and-right, or-left, or-right, or-of, or-false, same-test}
-use Rattle.sets.proofs.Sets.{in-union-left, in-union-right, of-union, in-only, of-only, insert-in}
+use Rattle.sets.proofs.Sets.{in-union-left, in-union-right, of-union, in-only, of-only, in-set, of-set, of-set-lt, insert-in}
+use Rattle.sets.proofs.Places.{put-length, set-at-words, put-words}
 use Rattle.records.specs.declared.record.Record.{Record}
 use Rattle.records.specs.declared.record.Record.the-variants.{Contact}
 use Rattle.records.specs.Limits.{maxBadges}
@@ -26,11 +28,11 @@ use Rattle.records.specs.Judging.{validContact}
 use Rattle.records.specs.Meaning.{covers, inContact}
 use Rattle.records.proofs.Judged.{valid-of}
 use Rattle.records.proofs.Meaning.{Covers, covers-of, covers-in, contact-append}
-use Rattle.days.specs.Days.{neighbours, dayWords}
+use Rattle.days.specs.Days.{neighbours, daySets, dayWords}
 use Rattle.days.specs.Filling.{Fitting, marked, Marks}
-use Rattle.days.proofs.Days.{day-length, tick-fits, in-day, of-day, day-by, day-same}
+use Rattle.days.proofs.Days.{sets-length, day-set, sets-by, tick-fits, day-same}
 
--- badge v inserted into word i: every word has the members that it had, word i has v as well, and nothing else is new
+-- badge v inserted into set i of a list: every set has the members that it had, set i has v as well, and nothing else is new
 abbrev inserted : List ℕ → ℕ → ℕ → List ℕ
 inserted ws i v = set ws i (union (getD ws i 0) (only v))
 
@@ -62,19 +64,15 @@ module _ (ws : List ℕ) (i v : ℕ) (h : i < length ws) where
       go (yes e) = either e (of-union (getD ws i 0) (only v) w (rw (e, at-same) at m))
       go (no f) = inl (rw (at-other j f) at m)
 
--- marking changes no length, and no words behind those that it marks in
+-- marking changes no length
 pub marked-length : (n : ℕ) (ws : List ℕ) (t u v : ℕ) → length (marked n ws t u v) ≡ length ws
 unfolding marked
-marked-length n ws t u v = length-set ws (t * n + u) _
+marked-length n ws t u v = put-length ws (t * n + u) _
 
-pub marked-append : (n : ℕ) (xs ys : List ℕ) (t u v : ℕ) → t * n + u < length xs → marked n (xs ++ ys) t u v ≡ marked n xs t u v ++ ys
+-- putting a badge's neighbours with v inserted marks v
+pub put-marked : (n : ℕ) (ws : List ℕ) (t u v x y : ℕ) → v < capacity → y ≡ setAt ws (t * n + u) → x ≡ insert y v → putSet ws (t * n + u) x ≡ marked n ws t u v
 unfolding marked neighbours
-marked-append n xs ys t u v h = rw (List·getD-append xs ys 0 (t * n + u) h) (set-append-left xs ys (t * n + u) _ h)
-
--- storing a badge's neighbours with v inserted marks v
-pub store-marked : (n : ℕ) (ws : List ℕ) (t u v x : ℕ) → v < capacity → x ≡ insert (getD ws (t * n + u) 0) v → set ws (t * n + u) x ≡ marked n ws t u v
-unfolding marked neighbours
-store-marked n ws t u v x h e = ap (λ (y : ℕ). set ws (t * n + u) y) (e ∙ insert-in (getD ws (t * n + u) 0) v h)
+put-marked n ws t u v x y h e f = ap (putSet ws (t * n + u)) (f ∙ insert-in y v h ∙ ap (λ (s : ℕ). union s (only v)) e)
 
 -- the relation that joins b to a in tick t and nothing else
 unfoldable joins : ℕ → ℕ → ℕ → ℕ → ℕ → ℕ → Bool
@@ -88,38 +86,42 @@ of-joins : (t a b t′ u v : ℕ) → joins t a b t′ u v ≡ true → (t ≡ t
 unfolding joins
 of-joins t a b t′ u v e = (eqb-true t t′ (and-left _ _ (and-left _ _ e)), eqb-true a u (and-right _ _ (and-left _ _ e)), eqb-true b v (and-right _ _ e))
 
--- a day's words with b marked in the word of a at tick t
+-- a day's words, and others behind them, with b marked in the set of a at tick t
 module _ (n T : ℕ) (r : ℕ → ℕ → ℕ → Bool) (t a b : ℕ) (h : t < T) (k : a < n) (l : b < n) where
-  there : t * n + a < length (dayWords n T r)
-  there = omega (arith, day-length n T r, digits-lt h k)
+  there : t * n + a < length (daySets n T r)
+  there = omega (arith, sets-length n T r, digits-lt h k)
 
-  day-marked : marked n (dayWords n T r) t a b ≡ dayWords n T (λ t′ u v. r t′ u v or joins t a b t′ u v)
-  unfolding marked neighbours
-  day-marked = day-by n T _ _ (marked-length n (dayWords n T r) t a b ∙ day-length n T r)
-      (λ t′ u v g m i. to t′ u v g m (of-insert (dayWords n T r) (t * n + a) b there (t′ * n + u) v i))
+  sets-marked : inserted (daySets n T r) (t * n + a) b ≡ daySets n T (λ t′ u v. r t′ u v or joins t a b t′ u v)
+  sets-marked = sets-by n T _ _ (length-set (daySets n T r) (t * n + a) _ ∙ sets-length n T r)
+      (λ t′ u v g m i. to t′ u v g m (of-insert (daySets n T r) (t * n + a) b there (t′ * n + u) v i))
       (λ t′ u v g m x e. back t′ u v g m x (or-of (r t′ u v) _ e))
     where
-      to : (t′ u v : ℕ) → t′ < T → u < n → In (neighbours n (dayWords n T r) t′ u) v ⊎ ((t′ * n + u ≡ t * n + a) × (v ≡ b))
+      to : (t′ u v : ℕ) → t′ < T → u < n → In (getD (daySets n T r) (t′ * n + u) 0) v ⊎ ((t′ * n + u ≡ t * n + a) × (v ≡ b))
           → (v < n) × ((r t′ u v or joins t a b t′ u v) ≡ true)
-      to t′ u v g m (inl i) = let x = of-day n T r t′ u v g m i in (x .0, or-left _ _ (x .1))
+      to t′ u v g m (inl i) = let j : In (setOf n (r t′ u)) v = rw (day-set n T r t′ u g m) at i in (of-set-lt n _ v j, or-left _ _ (of-set n _ v j))
       to t′ u v g m (inr e) =
           let p : t ≡ t′ = sym (digits-div t k) ∙ ap (λ (x : ℕ). x / n) (sym (e .0)) ∙ digits-div t′ m in
           let q : a ≡ u = sym (digits-mod t k) ∙ ap (λ (x : ℕ). x % n) (sym (e .0)) ∙ digits-mod t′ m in
           (omega (arith, e .1), or-right _ _ (joins-in t a b t′ u v p q (sym (e .1))))
 
-      back : (t′ u v : ℕ) → t′ < T → u < n → v < n → (r t′ u v ≡ true) ⊎ (joins t a b t′ u v ≡ true) → In (neighbours n (marked n (dayWords n T r) t a b) t′ u) v
-      back t′ u v g m x (inl e) = insert-old (dayWords n T r) (t * n + a) b there (t′ * n + u) v (in-day n T r t′ u v g m x e)
+      back : (t′ u v : ℕ) → t′ < T → u < n → v < n → (r t′ u v ≡ true) ⊎ (joins t a b t′ u v ≡ true) → In (getD (inserted (daySets n T r) (t * n + a) b) (t′ * n + u) 0) v
+      back t′ u v g m x (inl e) = insert-old (daySets n T r) (t * n + a) b there (t′ * n + u) v (rw (day-set n T r t′ u g m) (in-set n _ v x e))
       back t′ u v g m x (inr e) =
           let j = of-joins t a b t′ u v e in
-          rw (← j .0, ← j .1, ← j .2) (insert-new (dayWords n T r) (t * n + a) b there)
+          rw (← j .0, ← j .1, ← j .2) (insert-new (daySets n T r) (t * n + a) b there)
 
--- a day's words, and others behind them, with a pair marked both ways at tick t
+  day-marked : (rest : List ℕ) → marked n (dayWords n T r ++ rest) t a b ≡ dayWords n T (λ t′ u v. r t′ u v or joins t a b t′ u v) ++ rest
+  unfolding marked neighbours dayWords
+  day-marked rest =
+      ap (λ (s : ℕ). putSet (wordsOf (daySets n T r) ++ rest) (t * n + a) (union s (only b))) (set-at-words (daySets n T r) rest (t * n + a) there)
+      ∙ put-words (daySets n T r) rest (t * n + a) _ there
+      ∙ ap (λ (ss : List ℕ). wordsOf ss ++ rest) sets-marked
+
+-- with a pair marked both ways at tick t
 pair-marked : (n T : ℕ) (r : ℕ → ℕ → ℕ → Bool) (rest : List ℕ) (t a b : ℕ) → t < T → a < n → b < n
     → marked n (marked n (dayWords n T r ++ rest) t a b) t b a ≡ dayWords n T (λ t′ u v. r t′ u v or joins t a b t′ u v or joins t b a t′ u v) ++ rest
-pair-marked n T r rest t a b h k l = ap (λ (x : List ℕ). marked n x t b a) (once r a b k l) ∙ once (λ t′ u v. r t′ u v or joins t a b t′ u v) b a l k
-  where
-    once : (r : ℕ → ℕ → ℕ → Bool) (a b : ℕ) → a < n → b < n → marked n (dayWords n T r ++ rest) t a b ≡ dayWords n T (λ t′ u v. r t′ u v or joins t a b t′ u v) ++ rest
-    once r a b k l = marked-append n (dayWords n T r) rest t a b (there n T r t a b h k l) ∙ ap (λ (x : List ℕ). x ++ rest) (day-marked n T r t a b h k l)
+pair-marked n T r rest t a b h k l =
+    ap (λ (x : List ℕ). marked n x t b a) (day-marked n T r t a b h k l rest) ∙ day-marked n T (λ t′ u v. r t′ u v or joins t a b t′ u v) t b a h l k rest
 
 -- a relation with what a record covers in the ticks before t; for a contact, when it holds
 unfoldable pub markedBefore : (ℕ → ℕ → ℕ → Bool) → Record → ℕ → ℕ → ℕ → ℕ → Bool
@@ -235,7 +237,7 @@ module _ (n a b first last : ℕ) (before : List ℕ) where
 
 -- what mark_pair requires at a tick of the contact
 pub pair-fits : (n words a b first last t : ℕ) → Fitting n words (Contact a b first last) → t < last + 1
-    → (n ≤ maxBadges) × (a < n) × (b < n) × (t * n + n ≤ words)
+    → (n ≤ maxBadges) × (a < n) × (b < n) × (t * n + n ≤ words / setWords)
 pair-fits n words a b first last t fit h =
     let p = valid-of n (fit .T) a b first last (fit .admissible) in
     (fit .few, p .low, p .high, omega (arith, tick-fits t (fit .T) n (omega (arith, p)), fit .there))

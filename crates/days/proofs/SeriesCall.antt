@@ -6,7 +6,7 @@ use Prim.Native.Nat.{ℕ, _*_, _≤_, _<_}
 use native.Mathlib.Omega.{arith}
 use lib.ListN.{length, drop}
 use Rattle.records.specs.declared.record.Record.{Record}
-use Rattle.records.specs.Limits.{wordsFor, maxWords}
+use Rattle.records.specs.Limits.{maxBadges, wordsFor, maxWords}
 use Rattle.records.specs.Outcomes.{Outcome, refused, success, andThen}
 use Rattle.records.proofs.Outcomes.{refused-success, refused-same, success-same, then-passed}
 use Rattle.records.proofs.Accepting.{accepted-of}
@@ -52,7 +52,14 @@ sizes-told logs lengths sizes e =
       counted = records-count 0 (parts logs lengths) (p .0) (p .1) ∙ parts-count logs lengths;
     }
 
--- a day of accepted logs has no more words than the largest
+-- a day of accepted logs has no more badges than any, and no more words than the largest
+pub series-badges : (logs : List (List ℕ)) (all : List (List Record)) → judgeLogs 0 logs ≡ success all → badgesIn all ≤ maxBadges
+unfolding judgeLogs badgesIn
+series-badges [] all e = rw (← success-same e) (omega arith)
+series-badges (log ∷ logs) all e =
+    let f = fronted 0 log logs all e in
+    rw (← f .same) (limits-of (accepted-of 0 log (f .first) (f .accepted) .limits) .few)
+
 pub series-most : (logs : List (List ℕ)) (all : List (List Record)) → judgeLogs 0 logs ≡ success all → daySize all ≤ maxWords
 unfolding judgeLogs badgesIn ticksIn
 series-most [] all e = rw (← success-same e) (omega arith)

@@ -1,34 +1,38 @@
--- The day in words: "word t×n+u has bit v set exactly when u and v are in contact in tick t".
+-- The day in words: "word t×n+u has bit v set exactly when u and v are in contact in tick t", or rather the set at that place has v.
 -- (A day is a temporal graph over T timestamps; the words of one tick are a snapshot's adjacency rows.)
 use mathlib.Core.Bool.{Bool, true}
 use mathlib.Core.List.{List, [], _++_}
 use mathlib.Core.Path.{_≡_}
 use Prim.Native.Nat.{ℕ, zero, suc, _+_, _*_, _^_, _≤_, _<_}
 use lib.Dec.{ltb}
-use lib.ListN.{length, getD}
+use lib.ListN.{length}
 use Rattle.sets.specs.Bools.{_and_, _or_, isnt, all}
 use Rattle.sets.specs.Sets.{In, has, setOf}
 use Rattle.sets.specs.Tables.{tabulate}
+use Rattle.sets.specs.Words.{setAt, wordsOf}
 use Rattle.records.specs.declared.record.Record.{Record}
 use Rattle.records.specs.Limits.{withinLimits, wordsFor}
 use Rattle.records.specs.Meaning.{badgesOf, ticksOf, inContact}
 
 -- the badges in contact with u in tick t of a day of n badges, as a set
 unfoldable pub neighbours : ℕ → List ℕ → ℕ → ℕ → ℕ
-neighbours n ws t u = getD ws (t * n + u) 0
+neighbours n ws t u = setAt ws (t * n + u)
 
 -- u and v are in contact in tick t, by the words
 unfoldable pub adjacent : ℕ → List ℕ → ℕ → ℕ → ℕ → Bool
 adjacent n ws t u v = has (neighbours n ws t u) v
 
--- the words of one tick: for each badge, those that a relation joins to it
-unfoldable pub tickWords : ℕ → (ℕ → ℕ → Bool) → List ℕ
-tickWords n r = tabulate n (λ u. setOf n (r u))
+-- the sets of one tick: for each badge, those that a relation joins to it
+unfoldable pub tickSets : ℕ → (ℕ → ℕ → Bool) → List ℕ
+tickSets n r = tabulate n (λ u. setOf n (r u))
 
--- the words of a day, tick by tick: r t u v says whether u and v are in contact in tick t
+-- the sets of a day, tick by tick, and its words: r t u v says whether u and v are in contact in tick t
+unfoldable pub daySets : ℕ → ℕ → (ℕ → ℕ → ℕ → Bool) → List ℕ
+daySets n zero r = []
+daySets n (suc T) r = daySets n T r ++ tickSets n (r T)
+
 unfoldable pub dayWords : ℕ → ℕ → (ℕ → ℕ → ℕ → Bool) → List ℕ
-dayWords n zero r = []
-dayWords n (suc T) r = dayWords n T r ++ tickWords n (r T)
+dayWords n T r = wordsOf (daySets n T r)
 
 -- the words of a log's day
 unfoldable pub dayOf : List Record → List ℕ

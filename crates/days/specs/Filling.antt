@@ -3,9 +3,9 @@ use mathlib.Core.Bool.{Bool, true}
 use mathlib.Core.List.{List, _++_}
 use mathlib.Core.Path.{_≡_}
 use Prim.Native.Nat.{ℕ, _+_, _*_, _≤_}
-use lib.ListN.{set}
 use Rattle.sets.specs.Bools.{_or_}
 use Rattle.sets.specs.Sets.{union, only}
+use Rattle.sets.specs.Words.{putSet}
 use Rattle.records.specs.declared.record.Record.{Record}
 use Rattle.records.specs.declared.record.Record.the-variants.{Header, Contact, End}
 use Rattle.records.specs.Limits.{maxBadges, wordsFor}
@@ -34,9 +34,9 @@ pub record Fitting (n words : ℕ) (r : Record) : Type 0 where
   pub there : wordsFor n T ≤ words
   pub admissible : Admissible n T r
 
--- badge v marked in the word of badge u at tick t
+-- badge v marked in the set of badge u at tick t
 unfoldable pub marked : ℕ → List ℕ → ℕ → ℕ → ℕ → List ℕ
-marked n ws t u v = set ws (t * n + u) (union (neighbours n ws t u) (only v))
+marked n ws t u v = putSet ws (t * n + u) (union (neighbours n ws t u) (only v))
 
 -- a day's words become those of the same day with what a record covers, whatever the day and the words after it
 abbrev pub Marks : ℕ → Record → List ℕ → List ℕ → Type 0

@@ -3,6 +3,7 @@ ghost use mathlib.Core.Path.{_≡_};
 ghost use mathlib.Core.List.{_++_, List};
 ghost use Prim.Native.Nat.{_+_, _*_, _<_, _≤_};
 ghost use lib.ListN.{length, drop, replicate};
+ghost use Rattle.sets.specs.Words.{places};
 ghost use Rattle.records.specs.Limits.{maxBadges, wordsFor};
 ghost use Rattle.records.specs.Outcomes.{success};
 ghost use Rattle.records.specs.Judging.{judge};
@@ -13,7 +14,9 @@ use records::Record;
 use records::decode;
 use records::kind_of;
 use records::size_of;
-use sets::BadgeSet;
+use sets::SET_WORDS;
+use sets::put_set;
+use sets::set_at;
 
 // All words are zero.
 pub fn clear(words: &mut [u64])
@@ -26,13 +29,15 @@ pub fn clear(words: &mut [u64])
 
 // Badges a and b are in contact in tick t.
 fn mark_pair(words: &mut [u64], n: usize, t: usize, a: usize, b: usize)
-    requires { ⌜ (n ≤ maxBadges) × (a < n) × (b < n) × (t * n + n ≤ length (now words)) ⌝ }
+    requires { ⌜ (n ≤ maxBadges) × (a < n) × (b < n) × (t * n + n ≤ places (now words)) ⌝ }
     ensures { λ _. ⌜ now (words .exit) ≡ marked n (marked n (now (words .entry)) t a b) t b a ⌝ }
 {
     let i = t * n + a;
     let j = t * n + b;
-    words[i] = BadgeSet::from_word(words[i]).with(b).to_word();
-    words[j] = BadgeSet::from_word(words[j]).with(a).to_word();
+    let contacts = set_at(words, i);
+    put_set(words, i, contacts.with(b));
+    let others = set_at(words, j);
+    put_set(words, j, others.with(a));
 }
 
 // Badges a and b are in contact in the ticks from first to last.
@@ -69,7 +74,7 @@ pub(crate) fn fill(log: &[u8], badges: usize, ticks: usize, words: &mut [u64])
     requires { ⌜ Accepts (now log) badges ticks × (wordsFor badges ticks ≤ length (now words)) ⌝ }
     ensures { λ _. ⌜ ((rs : List Record) → judge (now (log .entry)) ≡ success rs → now (words .exit) ≡ dayOf rs ++ drop (wordsFor badges ticks) (now (words .entry))) ⌝ }
 {
-    clear(&mut words[..ticks * badges]);
+    clear(&mut words[..ticks * badges * SET_WORDS]);
     let mut at: usize = 0;
     while at < log.len() {
         let Decoded::Whole(record) = decode(&log[at..]) else {

@@ -6,6 +6,7 @@ use crate::day::fill;
 use records::Refusal;
 use records::Verdict;
 use records::judge;
+use sets::SET_WORDS;
 
 // Reads a log into the words that are lent: word t×n+u has bit v set exactly when u and v are in contact in tick t.
 // The whole log is judged first, then 8; a refused call changes no word, and words after the first n×T are never touched.
@@ -20,7 +21,7 @@ pub fn read(log: &[u8], words: &mut [u64]) -> Verdict
             ticks,
             contacts,
         } => {
-            if words.len() < ticks * badges {
+            if words.len() < ticks * badges * SET_WORDS {
                 return Verdict::Refused(Refusal::TooFewWords);
             }
             fill(log, badges, ticks, words);

@@ -12,6 +12,7 @@ use crate::sizes::compared;
 use records::Refusal;
 use records::Verdict;
 use records::judge_from;
+use sets::SET_WORDS;
 
 // What reading them answers: n and T, which all of them have; that they differ in these; or a refusal.
 pub enum Series {
@@ -80,7 +81,7 @@ fn fill_all(logs: &[u8], lengths: &[usize], badges: usize, ticks: usize, words: 
         let end = end_of(at, lengths[i], logs.len());
         fill(&logs[at..end], badges, ticks, &mut words[from..]);
         at = end;
-        from = from + ticks * badges;
+        from = from + ticks * badges * SET_WORDS;
     }
 }
 
@@ -107,7 +108,7 @@ pub fn read_series(logs: &[u8], lengths: &[usize], room: usize, words: &mut [u64
             if !sizes.alike {
                 return Series::DifferentSizes;
             }
-            let size = sizes.ticks * sizes.badges;
+            let size = sizes.ticks * sizes.badges * SET_WORDS;
             if room < size {
                 return Series::Refused(Refusal::TooFewWords);
             }

@@ -11,7 +11,9 @@ use lib.ListN.{length, getD, take, drop, length-take, List·getD-eq-default}
 use Rattle.sets.specs.Sets.{In, full, intersection}
 use Rattle.sets.specs.Members.{capacity}
 use Rattle.sets.specs.Tables.{tabulate, piecewise}
+use Rattle.sets.specs.Words.{setWords, setAt}
 use Rattle.sets.proofs.Sets.{in-intersection, of-intersection-left, of-intersection-right, in-lt, in-full, of-full, ext}
+use Rattle.sets.proofs.Places.{one-word}
 use Rattle.sets.proofs.Tables.{tabulate-same, piecewise-in, piecewise-out}
 use Rattle.days.specs.Days.{neighbours, IsDay}
 use Rattle.days.proofs.Days.{neighbours-part}
@@ -32,7 +34,10 @@ rows-are n ws first last f h g =
 -- the words of a tick: the neighbours of each badge below n, and nothing from n up
 tick-at : (n : ℕ) (ws : List ℕ) (t u : ℕ) → u < n → getD (tickOf n ws t) u 0 ≡ neighbours n ws t u
 unfolding tickOf
-tick-at n ws t u l = neighbours-part n ws t n u l
+tick-at n ws t u l =
+    let a : n ≡ n * setWords = omega arith in
+    let b : t * n ≡ t * n * setWords = omega arith in
+    one-word (take n (drop (t * n) ws)) u ∙ ap₂ (λ (x y : ℕ). setAt (take x (drop y ws)) u) a b ∙ neighbours-part n ws t n u l
 
 tick-past : (n : ℕ) (ws : List ℕ) (t u : ℕ) → n ≤ u → getD (tickOf n ws t) u 0 ≡ 0
 unfolding tickOf

@@ -8,7 +8,8 @@ use lib.Dec.{ltb}
 use lib.ListN.{getD, replicate, getD-replicate}
 use borrow.Author.Tests.{ltb-true, ltb-false}
 use Rattle.sets.specs.Sets.{has, setOf, union, difference, only, full}
-use Rattle.sets.specs.Members.{wordBits, capacity}
+use Rattle.sets.specs.Members.{capacity}
+use Rattle.sets.specs.Words.{wordBits}
 use Rattle.sets.specs.Tables.{piecewise}
 use Rattle.sets.proofs.Bools.{same-test, to-false}
 use Rattle.sets.proofs.Sets.{in-test, has-test, out-test, in-set, of-set, of-set-lt, of-difference, in-difference, of-full, set-yes, set-no}

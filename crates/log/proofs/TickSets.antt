@@ -9,7 +9,7 @@ use lib.Dec.{ltb}
 use borrow.Author.Tests.{ltb-true, ltb-false, lt-ltb, le-ltb}
 use Rattle.sets.specs.Bools.{isnt}
 use Rattle.sets.specs.Sets.{has, full, difference, smallest}
-use Rattle.sets.specs.Members.{wordBits}
+use Rattle.sets.specs.Words.{wordBits}
 use Rattle.sets.proofs.Bools.{to-false, same-test, isnt-in, isnt-of}
 use Rattle.sets.proofs.Sets.{in-test, has-test, in-difference, of-difference, full-suc, in-full, of-full}
 use Rattle.sets.proofs.Smallest.{smallest-le, smallest-in, smallest-first}

@@ -6,7 +6,8 @@ use Prim.Native.Nat.{ℕ, _+_, _-_, _*_, _≤_, _<_}
 use lib.Dec.{ltb}
 use lib.ListN.{length, getD}
 use Rattle.sets.specs.Sets.{has, setOf, union}
-use Rattle.sets.specs.Members.{wordBits, capacity}
+use Rattle.sets.specs.Members.{capacity}
+use Rattle.sets.specs.Words.{wordBits}
 use Rattle.sets.specs.Tables.{tabulate, piecewise}
 use Rattle.days.specs.Days.{adjacent}
 use Rattle.log.specs.declared.ticks.TickSet.{TickSet}

@@ -2,11 +2,14 @@
 ghost use mathlib.Core.Path.{_≡_};
 ghost use Prim.Native.Nat.{_-_, _≤_, _<_, min};
 ghost use lib.ListN.{length, replicate};
-ghost use Rattle.sets.specs.Members.{wordBits, capacity, members};
+ghost use Rattle.sets.specs.Members.{capacity, members};
+ghost use Rattle.sets.specs.Words.{wordBits};
 ghost use Rattle.records.specs.Limits.{maxTicks};
 ghost use Rattle.log.specs.TickSets.{united, Columns};
 ghost use Rattle.log.specs.Writing.{Writable};
 use sets::BadgeSet;
+use sets::CAPACITY;
+use sets::set_at;
 
 // Adds the bits of a word to the column of each badge of a set.
 fn unite(columns: &mut [u64], badges: BadgeSet, bits: u64)
@@ -43,7 +46,7 @@ pub(crate) fn gather_columns(
     ticks: usize,
     u: usize,
     from: usize,
-    columns: &mut [u64; 64],
+    columns: &mut [u64; CAPACITY],
 )
     requires { ⌜ Writable n ticks (now words) × (u < n) × (from ≤ maxTicks) × (now columns ≡ replicate capacity 0) ⌝ }
     ensures { λ _. ⌜ Columns n (now (words .entry)) u from (min wordBits (ticks - from)) (now (columns .exit)) ⌝ }
@@ -51,7 +54,7 @@ pub(crate) fn gather_columns(
     let smaller = BadgeSet::full(u + 1);
     let m = window(from, ticks);
     for t in 0..m {
-        let row = BadgeSet::from_word(words[(from + t) * n + u]);
+        let row = set_at(words, (from + t) * n + u);
         unite(columns, row.difference(smaller), 1 << t);
     }
 }

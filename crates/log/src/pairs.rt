@@ -8,6 +8,7 @@ ghost use Rattle.log.specs.Writing.{Writable, Roomy, Appends};
 use crate::columns::gather_columns;
 use crate::encoding::append_contact;
 use crate::ticks::TickSet;
+use sets::CAPACITY;
 
 // Appends the runs of u and v, which meet in the ticks of a set: from the first tick of a run to the one after its last, and on to the
 // next run's first.
@@ -47,9 +48,9 @@ pub(crate) fn append_row(
     requires { ⌜ Writable n ticks (now words) × Roomy count (now buffer) × (u < n) ⌝ }
     ensures { λ r. ⌜ Appends (rowRuns n ticks (adjacent n (now (words .entry))) u) count r (now (buffer .entry)) (now (buffer .exit)) ⌝ }
 {
-    let mut lows = [0u64; 64];
+    let mut lows = [0u64; CAPACITY];
     gather_columns(words, n, ticks, u, 0, &mut lows);
-    let mut highs = [0u64; 64];
+    let mut highs = [0u64; CAPACITY];
     gather_columns(words, n, ticks, u, 64, &mut highs);
     let mut so_far = count;
     let larger = u + 1;

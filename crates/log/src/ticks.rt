@@ -3,7 +3,7 @@ ghost use mathlib.Core.Path.{_≡_};
 ghost use Prim.Native.Nat.{_<_};
 ghost use Rattle.sets.specs.Bools.{isnt};
 ghost use Rattle.sets.specs.Sets.{has, difference, full};
-ghost use Rattle.sets.specs.Members.{wordBits};
+ghost use Rattle.sets.specs.Words.{wordBits};
 ghost use Rattle.log.specs.TickSets.{hasTick, tickCapacity, First};
 
 // Some of the ticks 0 to 127: bit t of the low word says whether tick t is in the set, bit t of the high word whether tick 64 + t is.

@@ -9,7 +9,7 @@ use lib.Bits.{bitAnd, bitOr, bitXor}
 use lib.Pow.{pow-pos}
 use lib.ListN.{length}
 use Rattle.sets.specs.Sets.{bit, In, setOf, full}
-use Rattle.sets.specs.Members.{wordBits}
+use Rattle.sets.specs.Words.{wordBits}
 use Rattle.sets.proofs.Bits.{bit-lt, bit-none, bit-and, bit-or, bit-xor}
 use Rattle.sets.proofs.Sets.{in-full}
 use Rattle.planes.specs.Lanes.{lane, FullAdder, Plus, Constant, Complement}

@@ -5,7 +5,7 @@ use mathlib.Core.List.{List, [], _∷_}
 use Prim.Native.Nat.{ℕ, _+_, _-_, _*_, _%_, _^_, _≤_, _<_}
 use lib.ListN.{length}
 use Rattle.sets.specs.Sets.{bit, In}
-use Rattle.sets.specs.Members.{wordBits}
+use Rattle.sets.specs.Words.{wordBits}
 use Rattle.planes.specs.declared.Planes.{Planes}
 
 -- the number in lane v

@@ -25,26 +25,14 @@ use Rattle.days.proofs.Days.{neighbours-take, same-words}
 use Rattle.series.proofs.SeriesJudged.{fronted, records-count, parts-count, series-passed}
 use Rattle.receivers.specs.Joining.{sum, Join, joinOf}
 use Rattle.receivers.proofs.JoinCall.{succeeded}
-use Rattle.promises.specs.Reading.{HoldsDay, Reads}
+use Rattle.promises.specs.Reading.{Reads}
+use Rattle.promises.proofs.ReadTheorems.{days-same}
 use Rattle.promises.specs.Joining.{AreLogs, none, more, JoinAsked, HasJoined, Joins}
 use Rattle.promises.specs.Tidying.{SameMeaning}
 use Rattle.promises.proofs.Quorums.{some-of, some-in, at-least-fewer, at-least-all, at-least-permuted}
 use Rattle.promises.proofs.JoinTheorems.{are-count, Decided, for-refusal, for-day, decided, joins, joined-lent-day}
 
--- Words that hold the same day, in the same lent words, are the same.
-pub days-same : {n T : ℕ} {P Q : ℕ → ℕ → ℕ → Type 0} {lent xs ys : List ℕ} → HoldsDay n T P lent xs → HoldsDay n T Q lent ys → wordsFor n T ≤ length lent
-    → ((t u v : ℕ) → P t u v ↔ Q t u v) → xs ≡ ys
-days-same {n} {T} {lent = lent} {xs = xs} {ys = ys} x y h same =
-    sym (take-append-drop (wordsFor n T) xs) ∙ ap₂ _++_ heads (x .keeps ∙ sym (y .keeps)) ∙ take-append-drop (wordsFor n T) ys
-  where
-    row : (t u : ℕ) → t < T → u < n → neighbours n (take (wordsFor n T) xs) t u ≡ neighbours n (take (wordsFor n T) ys) t u
-    row t u a b = rw (neighbours-take n T xs t u a b, neighbours-take n T ys t u a b)
-        (ext _ _ (λ v i. y .marks t u v a b .1 (same t u v .0 (x .marks t u v a b .0 i))) (λ v i. x .marks t u v a b .1 (same t u v .1 (y .marks t u v a b .0 i))))
-
-    heads : take (wordsFor n T) xs ≡ take (wordsFor n T) ys
-    heads = same-words n T _ _ (length-take-le _ xs (omega (arith, x .long))) (length-take-le _ ys (omega (arith, y .long))) row
-
--- So what a call leaves that has joined logs is the same for all calls.
+-- What a call leaves that has joined logs is the same for all calls.
 same-join : {a a′ : Outcome Size} {w w′ k k′ : List ℕ} → a ≡ a′ → w ≡ w′ → k ≡ k′ → _≡_ {A = Join} (record { answer = a; words = w; work = k }) (record { answer = a′; words = w′; work = k′ })
 same-join e f g = cc
 

@@ -7,6 +7,7 @@ use native.Mathlib.Omega.{arith}
 use lib.Dec.{leb}
 use lib.ListN.{length, getD, take, drop, replicate}
 use lib.Seq.{getD-take, getD-drop}
+use Rattle.sets.specs.Words.{setAt, fromWords, toWords, wordsOf}
 use Rattle.sets.specs.Bools.{_and_, _or_, isnt}
 use Rattle.sets.specs.Bytes.{littleEndian, fromLittleEndian}
 use Rattle.sets.specs.Sets.{In, digit, bit, setOf}
@@ -22,7 +23,7 @@ use Rattle.records.proofs.Outcomes.{refused-success}
 use Rattle.records.proofs.Numbers.{judge-number}
 use Rattle.records.proofs.Shifting.{judge-shifted}
 use Rattle.records.proofs.Theorems.{log-accepted}
-use Rattle.days.specs.Days.{neighbours, tickWords, dayWords}
+use Rattle.days.specs.Days.{neighbours, tickSets, daySets, dayWords}
 use Rattle.series.specs.Series.{parts, judgeLogs, badgesIn, ticksIn, haveSize, daySize, allSize, judgeSeries, Size, commonSize}
 use Rattle.receivers.specs.Joining.{sum, Joinable, joinable, judgeJoin, Join, joinOf}
 use Rattle.promises.specs.Joining.{none, more, AtLeast, enough, counted, passed, MetBy, JoinAsked, OneSize, JoinRefusal, by-log, by-19, Joins}
@@ -40,7 +41,7 @@ unfolding logs-computing _and_ _or_ isnt fromLittleEndian withinLimits isMark ma
 judging-computing = 0
 
 computing : ℕ
-unfolding judging-computing flatten bit setOf tabulate badgesOf ticksOf covers neighbours tickWords dayWords refuseIf andThen parts judgeLogs badgesIn ticksIn haveSize judgeSeries commonSize sum joinable judgeJoin
+unfolding judging-computing flatten bit setOf tabulate badgesOf ticksOf covers neighbours tickSets daySets dayWords refuseIf andThen parts judgeLogs badgesIn ticksIn haveSize judgeSeries commonSize sum joinable judgeJoin setAt fromWords toWords wordsOf
 computing = 0
 
 -- what a call takes, and two logs, day words and work words that it is asked to join at quorum 1 and at quorum 2; the last work word is beyond

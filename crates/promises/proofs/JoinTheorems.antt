@@ -14,7 +14,8 @@ use borrow.Author.Tests.{leb-true, le-leb}
 use Rattle.sets.specs.Sets.{In, Sub}
 use Rattle.sets.proofs.Bools.{clash, to-false}
 use Rattle.records.specs.declared.record.Record.{Record}
-use Rattle.records.specs.Limits.{maxContacts, maxLogBytes, withinLimits, wordsFor}
+use Rattle.records.specs.Limits.{maxBadges, maxContacts, maxLogBytes, withinLimits, wordsFor}
+use Rattle.records.proofs.WithinLimits.{limits-of}
 use Rattle.records.specs.Outcomes.{Outcome, refused, success, andThen}
 use Rattle.records.specs.Judging.{start, judgeFrom, validContact}
 use Rattle.records.specs.Meaning.{badgesOf, ticksOf, inContact}
@@ -26,7 +27,7 @@ use Rattle.records.proofs.Theorems.{log-length, met-below, met-apart}
 use Rattle.days.specs.Days.{neighbours, adjacent, dayWords, LentDay}
 use Rattle.days.specs.Calls.{Read, checkOf}
 use Rattle.series.specs.Series.{parts, judgeLogs, badgesIn, ticksIn, Sized, AllSized, haveSize, daySize, allSize, Size, commonSize}
-use Rattle.days.proofs.Days.{day-length, neighbours-append, in-day, of-day, relation-day, day-head}
+use Rattle.days.proofs.Days.{day-length, day-fits, neighbours-append, in-day, of-day, relation-day, day-head}
 use Rattle.days.proofs.Checks.{check-day}
 use Rattle.series.proofs.SeriesJudged.{size-of, size-in, first-sized, records-count, parts-count, each-accepted, Passed, series-passed, series-refused, series-different, series-little, series-few, series-success}
 use Rattle.log.specs.Tidy.{tidyContacts}
@@ -83,6 +84,11 @@ are-valid : {n T : ℕ} {logs : List (List ℕ)} {all : List (List Record)} → 
 are-valid (more l r) cts (List·Memᴰ·head e) c m = l .valid c (subst (Mem c) e m)
 are-valid (more l r) cts (List·Memᴰ·tail i) c m = are-valid r cts i c m
 
+-- there are no more badges than a log can have
+are-few : {n T : ℕ} {logs : List (List ℕ)} {all : List (List Record)} → AreLogs n T logs all → 0 < length logs → n ≤ maxBadges
+are-few none h = absurd (omega arith)
+are-few (more l r) h = limits-of (l .limits) .few
+
 -- What joining leaves of logs that it is asked to join.
 module _ {n T q : ℕ} {logs : List (List ℕ)} {all : List (List Record)} {words work : List ℕ} (a : JoinAsked n T q logs all words work) where
   abbrev joinedWords : List ℕ
@@ -136,6 +142,7 @@ module _ {n T q : ℕ} {logs : List (List ℕ)} {all : List (List Record)} {word
         answers = refl;
         day = record {
           marks = λ t u v x y. (bit-of t u v x y, bit-in t u v x y);
+          fit = rw (take-at day rest (wordsFor n T) long) (day-fits n T _ (are-few (a .are) (omega (arith, a .several))));
           keeps = drop-at day rest (wordsFor n T) long;
           long = omega (arith, length-append day rest, length-drop (wordsFor n T) words);
         };

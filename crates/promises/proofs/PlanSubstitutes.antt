@@ -5,6 +5,7 @@ use mathlib.Core.List.{List, [], _∷_, _++_, append-assoc, List·Memᴰ·head, 
 use Prim.Native.Nat.{ℕ, suc, _+_, _-_, _*_, _≤_, _<_}
 use native.Mathlib.Omega.{arith}
 use lib.ListN.{length, getD, take, drop, replicate, length-replicate}
+use Rattle.sets.specs.Words.{wordsOf}
 use Rattle.sets.specs.Ascii.{ascii}
 use Rattle.sets.specs.Sets.{In, full, size}
 use Rattle.sets.specs.Bytes.{littleEndian}
@@ -31,7 +32,7 @@ use Rattle.promises.proofs.SmallDays.{computing, d1-lent}
 
 -- n 3, T 4: 0–1 in ticks 0 and 1, 0–2 in ticks 2 and 3
 abbrev turning : List ℕ
-turning = 2 ∷ 1 ∷ 0 ∷ 2 ∷ 1 ∷ 0 ∷ 4 ∷ 0 ∷ 1 ∷ 4 ∷ 0 ∷ 1 ∷ []
+turning = wordsOf (2 ∷ 1 ∷ 0 ∷ 2 ∷ 1 ∷ 0 ∷ 4 ∷ 0 ∷ 1 ∷ 4 ∷ 0 ∷ 1 ∷ [])
 
 turning-lent : LentDay 3 4 turning
 unfolding computing

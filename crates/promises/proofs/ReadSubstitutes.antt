@@ -3,6 +3,7 @@ use mathlib.Core.Path.{_≡_, refl, ap}
 use mathlib.Core.List.{List, List·Memᴰ·head, List·Memᴰ·tail}
 use Prim.Native.Nat.{ℕ, _<_}
 use native.Mathlib.Omega.{arith}
+use Rattle.sets.specs.Words.{setAt, fromWords, toWords, wordsOf}
 use Rattle.sets.proofs.Sets.{not-in-none, ext}
 use Rattle.records.specs.Outcomes.{Outcome, refused, success}
 use Rattle.records.specs.Verdicts.{Values}
@@ -11,6 +12,7 @@ use Rattle.days.specs.Days.{neighbours}
 use Rattle.days.specs.Calls.{Read}
 use Rattle.days.proofs.Days.{same-words}
 use Rattle.promises.specs.Reading.{HasRead, Reads}
+use Rattle.promises.proofs.ReadTheorems.{days-same}
 use Rattle.promises.proofs.SmallLogs.{never, once, twice, bytesOf, never-log, in-twice, once-log, twice-log, two, met}
 
 -- Refusing all logs, with whatever number, offset and words.
@@ -20,7 +22,7 @@ refusing-all number offset words p = refused-success (p (bytesOf never) two 2 1 
 
 -- Leaving the words untouched, with whatever answer.
 pub words-untouched : (answer : List ℕ → List ℕ → Outcome Values) → Reads (λ log ws. record { answer = answer log ws; words = ws }) → ⊥
-unfolding two neighbours once
+unfolding two neighbours once setAt fromWords toWords wordsOf
 words-untouched answer p = not-in-none 1 (p (bytesOf once) two 2 1 once once-log (omega arith) .day .marks 0 0 1 (omega arith) (omega arith) .1 (met (List·Memᴰ·head refl)))
 
 -- Inventing the number of contact records: one that is the same for all logs, and one that the words alone decide.
@@ -46,13 +48,9 @@ count-from-words count badges ticks words p =
     second = p (bytesOf twice) two 2 1 twice twice-log (omega arith)
 
     -- the contact is met where it is given once exactly when it is met where it is given twice
-    row : (t u : ℕ) → t < 1 → u < 2 → neighbours 2 (words (bytesOf once) two) t u ≡ neighbours 2 (words (bytesOf twice) two) t u
-    row t u h k = ext _ _
-        (λ v i. let m = first .day .marks t u v h k .0 i in second .day .marks t u v h k .1 (m .0, List·Memᴰ·tail (m .1), m .2))
-        (λ v i. let m = second .day .marks t u v h k .0 i in first .day .marks t u v h k .1 (m .0, List·Memᴰ·head (in-twice (m .0) (m .1)), m .2))
-
     same : words (bytesOf once) two ≡ words (bytesOf twice) two
-    same = same-words 2 1 _ _ (first .day .long) (second .day .long) row
+    same = days-same (first .day) (second .day) (omega arith) (λ t u v.
+        (λ m. (m .0, List·Memᴰ·tail (m .1), m .2), λ m. (m .0, List·Memᴰ·head (in-twice (m .0) (m .1)), m .2)))
 
 pub count-fixed : (count : ℕ) (badges ticks : List ℕ → List ℕ → ℕ) (words : List ℕ → List ℕ → List ℕ) → Reads (inventing (λ ws. count) badges ticks words) → ⊥
 count-fixed count badges ticks words p = count-from-words (λ ws. count) badges ticks words p

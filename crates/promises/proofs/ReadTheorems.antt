@@ -1,14 +1,15 @@
 -- Theorems of logs and of reading: what their words say, and that reading keeps its promise.
-use mathlib.Core.Path.{_≡_, sym, ap, _∙_, subst}
+use mathlib.Core.Path.{_≡_, sym, ap, ap₂, _∙_, subst}
 use mathlib.Core.Bool.{true}
 use mathlib.Core.List.{List, _++_}
 use mathlib.Core.Logic.{_↔_}
 use Prim.Native.Nat.{ℕ, _≤_, _<_}
 use native.Mathlib.Nat.{le-of-eq}
 use native.Mathlib.Omega.{arith}
-use lib.ListN.{length, drop, length-append, length-drop}
-use lib.Seq.{drop-at}
+use lib.ListN.{length, take, drop, length-append, length-drop, take-append-drop}
+use lib.Seq.{take-at, drop-at, length-take-le}
 use Rattle.sets.specs.Sets.{In}
+use Rattle.sets.proofs.Sets.{ext}
 use Rattle.records.specs.declared.record.Record.{Record}
 use Rattle.records.specs.Limits.{wordsFor}
 use Rattle.records.specs.Outcomes.{success}
@@ -22,10 +23,11 @@ use Rattle.records.proofs.Verdicts.{values-log}
 use Rattle.records.proofs.Meaning.{contact-swap}
 use Rattle.days.specs.Days.{neighbours, dayWords, dayOf, IsDay}
 use Rattle.days.specs.Calls.{Read, readOf, checkOf}
-use Rattle.days.proofs.Days.{day-length, neighbours-append, in-day, of-day, relation-day}
+use Rattle.days.proofs.Days.{day-length, day-fits, neighbours-append, neighbours-take, same-words, in-day, of-day, relation-day}
+use Rattle.records.proofs.WithinLimits.{limits-of}
 use Rattle.days.proofs.ReadCall.{read-success}
 use Rattle.days.proofs.Checks.{check-append, check-day}
-use Rattle.promises.specs.Reading.{HasRead, Reads}
+use Rattle.promises.specs.Reading.{HoldsDay, HasRead, Reads}
 
 -- What each bit of an accepted log's words says, whatever words follow them.
 module _ (n T : ℕ) (cts : List Record) (valid : (c : Record) → Mem c cts → validContact n T c ≡ true) (rest : List ℕ) where
@@ -77,7 +79,21 @@ reads log ws n T cts l h =
       answers = ap success (values-log n T cts (l .valid));
       day = record {
         marks = log-bits n T cts (l .valid) rest;
+        fit = rw (take-at day rest (wordsFor n T) long) (day-fits n T _ (limits-of (l .limits) .few));
         keeps = drop-at day rest (wordsFor n T) long;
         long = omega (arith, length-append day rest, long, length-drop (wordsFor n T) ws);
       };
     })
+
+-- Words that hold the same day, in the same lent words, are the same.
+pub days-same : {n T : ℕ} {P Q : ℕ → ℕ → ℕ → Type 0} {lent xs ys : List ℕ} → HoldsDay n T P lent xs → HoldsDay n T Q lent ys → wordsFor n T ≤ length lent
+    → ((t u v : ℕ) → P t u v ↔ Q t u v) → xs ≡ ys
+days-same {n} {T} {lent = lent} {xs = xs} {ys = ys} x y h same =
+    sym (take-append-drop (wordsFor n T) xs) ∙ ap₂ _++_ heads (x .keeps ∙ sym (y .keeps)) ∙ take-append-drop (wordsFor n T) ys
+  where
+    row : (t u : ℕ) → t < T → u < n → neighbours n (take (wordsFor n T) xs) t u ≡ neighbours n (take (wordsFor n T) ys) t u
+    row t u a b = rw (neighbours-take n T xs t u a b, neighbours-take n T ys t u a b)
+        (ext _ _ (λ v i. y .marks t u v a b .1 (same t u v .0 (x .marks t u v a b .0 i))) (λ v i. x .marks t u v a b .1 (same t u v .1 (y .marks t u v a b .0 i))))
+
+    heads : take (wordsFor n T) xs ≡ take (wordsFor n T) ys
+    heads = same-words n T _ _ (length-take-le _ xs (omega (arith, x .long))) (length-take-le _ ys (omega (arith, y .long))) (x .fit) (y .fit) row

@@ -4,10 +4,11 @@ use mathlib.Core.List.{List, [], _∷_}
 use Prim.Native.Nat.{ℕ}
 use native.Mathlib.Omega.{arith}
 use lib.ListN.{replicate}
+use Rattle.sets.specs.Words.{setAt, fromWords, toWords, wordsOf}
 use Rattle.sets.specs.Bools.{_and_, _or_, isnt, all}
 use Rattle.sets.specs.Sets.{bit, isSub, intersection, difference, setOf, full, filterIn, filter, sizeIn, size, smallest}
 use Rattle.sets.specs.Tables.{tabulate, concatBelow, keepIf}
-use Rattle.records.specs.Limits.{withinLimits}
+use Rattle.records.specs.Limits.{withinLimits, wordsFor}
 use Rattle.records.specs.Outcomes.{refuseIf, andThen}
 use Rattle.days.specs.Days.{LentDay, neighbours, adjacent, isTick, isDay}
 use Rattle.days.specs.Calls.{checkOf}
@@ -36,11 +37,11 @@ use Rattle.groups.specs.Calls.{coreNumbersOf}
 
 -- as many words as D1 has, without contacts
 unfoldable pub still : List ℕ
-still = replicate 12 0
+still = replicate (wordsFor 4 3) 0
 
 -- all that is computed with
 unfoldable pub computing : ℕ
-unfolding badges d1Words still _and_ _or_ isnt all bit intersection difference setOf full filterIn filter sizeIn size smallest tabulate withinLimits refuseIf andThen neighbours adjacent isTick isDay deliver checkOf degree strip strips core largest coreNumber isSpan throughout spanNeighbours coreNumberBytes spanJudged reviewOf isReview coreNumbersOf concatBelow keepIf coreOn hasCore asLarge same isMaximal isGroup groupsOn groupsFrom groupsOf inRange areEnough meets kept reaches grow grows circle firstCircle circlesIn circles circlesOf recordsOf circleRecords shownRecords isSub contains score scoreOn partOn partsFrom partsOf fellows firstGreatest sumWith bestSum endAfter endsFrom bestEnds sumOfOrders
+unfolding badges d1Words still _and_ _or_ isnt all bit intersection difference setOf full filterIn filter sizeIn size smallest tabulate withinLimits refuseIf andThen neighbours adjacent isTick isDay deliver checkOf degree strip strips core largest coreNumber isSpan throughout spanNeighbours coreNumberBytes spanJudged reviewOf isReview coreNumbersOf concatBelow keepIf coreOn hasCore asLarge same isMaximal isGroup groupsOn groupsFrom groupsOf inRange areEnough meets kept reaches grow grows circle firstCircle circlesIn circles circlesOf recordsOf circleRecords shownRecords isSub contains score scoreOn partOn partsFrom partsOf fellows firstGreatest sumWith bestSum endAfter endsFrom bestEnds sumOfOrders setAt fromWords toWords wordsOf
 computing = 0
 
 -- both are lent days

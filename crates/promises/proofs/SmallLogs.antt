@@ -3,11 +3,11 @@ use mathlib.Core.Path.{_≡_, refl}
 use mathlib.Core.List.{List, [], _∷_, List·Memᴰ·head, List·Memᴰ·tail, List·Memᴰ·not-nil}
 use Prim.Native.Nat.{ℕ, _≤_}
 use native.Mathlib.Omega.{arith}
-use lib.ListN.{length}
+use lib.ListN.{length, replicate}
 use Rattle.sets.specs.Bools.{_and_, _or_, isnt}
 use Rattle.records.specs.declared.record.Record.{Record}
 use Rattle.records.specs.declared.record.Record.the-variants.{Contact}
-use Rattle.records.specs.Limits.{maxContacts, withinLimits}
+use Rattle.records.specs.Limits.{maxContacts, withinLimits, wordsFor}
 use Rattle.records.specs.Records.{encodeAll}
 use Rattle.records.specs.Judging.{validContact}
 use Rattle.records.specs.Meaning.{covers}
@@ -54,9 +54,9 @@ pub twice-log : IsLog (bytesOf twice) 2 1 twice
 unfolding twice once
 twice-log = repeated twice in-twice (omega arith)
 
--- two words are enough for each
+-- the words of two sets are enough for each
 unfoldable pub two : List ℕ
-two = 0 ∷ 0 ∷ []
+two = replicate (wordsFor 2 1) 0
 
 -- the contact is met in tick 0, by 0 with 1
 pub met : {cts : List Record} → Mem meeting cts → Met cts 0 0 1

@@ -8,6 +8,7 @@ use native.Mathlib.Omega.{arith}
 use lib.ListN.{length, getD, drop, replicate, length-replicate}
 use lib.Seq.{take-at}
 use lib.ListN.{take}
+use Rattle.sets.specs.Words.{setAt, fromWords, toWords, wordsOf}
 use Rattle.sets.specs.Bools.{_and_, _or_, isnt}
 use Rattle.sets.specs.Bytes.{littleEndian}
 use Rattle.sets.specs.Tables.{concatBelow, keepIf}
@@ -80,7 +81,7 @@ tidy-refusing-all read number offset words left tidied p =
 -- Leaving the work words untouched, with whatever answer and buffer.
 pub tidy-words-untouched : (read : List ℕ → List ℕ → Read) (answer : List ℕ → List ℕ → List ℕ → Outcome ℕ) (left : List ℕ → List ℕ → List ℕ → List ℕ) (tidied : List ℕ → List ℕ)
     → Tidies read (λ log work lent. record { answer = answer log work lent; words = work; buffer = left log work lent }) tidied → ⊥
-unfolding two neighbours once
+unfolding two neighbours once setAt fromWords toWords wordsOf
 tidy-words-untouched read answer left tidied p =
     let h : length (tidied (bytesOf once)) ≤ length (zeros (length (tidied (bytesOf once)))) = omega (arith, zeros-length (length (tidied (bytesOf once)))) in
     not-in-none 1 (p .succeeds (bytesOf once) two (zeros (length (tidied (bytesOf once)))) 2 1 once once-log (omega arith) h .day .marks 0 0 1 (omega arith) (omega arith) .1 (met (List·Memᴰ·head refl)))

@@ -162,6 +162,7 @@ tidy-recovers log lent n T cts l h =
       answers = r .answers;
       day = record {
         marks = λ t u v a b. (λ i. s .contacts t u v .0 (r .day .marks t u v a b .0 i), λ m. r .day .marks t u v a b .1 (s .contacts t u v .1 m));
+        fit = r .day .fit;
         keeps = r .day .keeps;
         long = r .day .long;
       };

@@ -10,6 +10,7 @@ use native.Mathlib.Decide.{decLe}
 use native.Mathlib.Omega.{arith}
 use lib.ListN.{length, take, drop, replicate, length-replicate}
 use lib.Seq.{take-at}
+use Rattle.sets.specs.Words.{setAt, fromWords, toWords, wordsOf}
 use Rattle.sets.specs.Bools.{_and_, _or_, isnt, all}
 use Rattle.sets.specs.Sets.{bit, In, intersection, union, difference, only, setOf, smallest}
 use Rattle.sets.specs.Tables.{tabulate, piecewise}
@@ -72,7 +73,7 @@ no-call P {n} {T} {ws} {index} {s} d wrong call bytes f p = wrong (bytes n T ws 
 -- ---- of three paths of four badges, and of a day with two possible sources
 
 tracing : ℕ
-unfolding _and_ _or_ isnt all bit intersection union difference only setOf smallest tabulate piecewise withinLimits neighbours isTick isDay overlap spread sourceFrom ticksFirst passing newly tickAfter sourceAfter traceBytes badges risingWords fallingWords atOnceWords twoSourcesWords
+unfolding _and_ _or_ isnt all bit intersection union difference only setOf smallest tabulate piecewise withinLimits neighbours isTick isDay overlap spread sourceFrom ticksFirst passing newly tickAfter sourceAfter traceBytes badges risingWords fallingWords atOnceWords twoSourcesWords setAt fromWords toWords wordsOf
 tracing = 0
 
 -- from badge 0 and tick 0 on

@@ -11,7 +11,10 @@ use borrow.Author.Tests.{eqb-true, eq-eqb}
 use Rattle.sets.specs.Sets.{In}
 use Rattle.sets.proofs.Sets.{in-lt}
 use Rattle.records.specs.declared.record.Record.{Record}
+use Rattle.sets.specs.Words.{Words}
+use Rattle.sets.proofs.Words.{words-take}
 use Rattle.records.specs.Limits.{maxContacts, wordsFor}
+use Rattle.records.proofs.WithinLimits.{limits-of}
 use Rattle.records.specs.Outcomes.{refused, success}
 use Rattle.records.specs.Meaning.{inContact}
 use Rattle.records.specs.Verdicts.{Values}
@@ -78,17 +81,17 @@ module _ (n T : ℕ) (ws : List ℕ) (runs : List Record) (h : HasRuns n T ws ru
     pub written-log : IsLog (logBytes n T runs) n T runs
     written-log = record { limits = h .lent .limits; few = k; valid = λ c m. tidy-valid n T (adjacent n ws) c (subst (Mem c) runs-are m); bytes = refl }
 
-    written-words : take (wordsFor n T) ws ≡ dayWords n T (inContact (logRecords n T runs))
-    written-words = day-by n T _ _ (length-take-le (wordsFor n T) ws (h .lent .enough))
+    written-words : Words ws → take (wordsFor n T) ws ≡ dayWords n T (inContact (logRecords n T runs))
+    written-words fit = day-by n T _ _ (limits-of (h .lent .limits) .few) (length-take-le (wordsFor n T) ws (h .lent .enough)) (words-take (wordsFor n T) fit)
         (λ t u v a b i.
         let j : In (neighbours n ws t u) v = rw (neighbours-take n T ws t u a b) at i in
         (in-lt n _ v (h .lent .day .tick t a .within u b) j, met-in n T runs t u v (met-neighbours t u v a b .0 j)))
         (λ t u v a b c e. rw (neighbours-take n T ws t u a b) (met-neighbours t u v a b .1 (met-of n T runs t u v e)))
 
-    pub write-back : (lent : List ℕ) → wordsFor n T ≤ length lent
+    pub write-back : (lent : List ℕ) → Words ws → wordsFor n T ≤ length lent
         → readOf (logBytes n T runs) lent
         ≡ record { answer = success (record { badges = n; ticks = T; contacts = length runs }); words = take (wordsFor n T) ws ++ drop (wordsFor n T) lent }
-    write-back lent l = read-log _ lent n T runs written-log l ∙ ap₂ (λ (v : Values) (d : List ℕ). left (success v) (d ++ drop (wordsFor n T) lent)) (values-log n T runs (written-log .valid)) (sym written-words)
+    write-back lent fit l = read-log _ lent n T runs written-log l ∙ ap₂ (λ (v : Values) (d : List ℕ). left (success v) (d ++ drop (wordsFor n T) lent)) (values-log n T runs (written-log .valid)) (sym (written-words fit))
 
 -- Writing keeps its promise.
 pub writes : Writes readOf writeOf
@@ -96,7 +99,7 @@ writes = record {
   succeeds = λ n T ws buffer runs h. write-succeeds n T ws runs h buffer;
   measures = λ n T ws buffer runs h. write-measures n T ws runs h buffer;
   many = λ n T ws buffer runs h. write-many n T ws runs h buffer;
-  back = λ n T ws lent runs h k. write-back n T ws runs h k lent;
+  back = λ n T ws lent runs h fit k. write-back n T ws runs h k lent fit;
 }
 
 -- Words after the first n×T make no difference.

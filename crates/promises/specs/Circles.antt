@@ -2,6 +2,7 @@
 use mathlib.Core.Bool.{Bool, false}
 use mathlib.Core.List.{List, [], _∷_, _++_, map}
 use Prim.Native.Nat.{ℕ, suc}
+use Rattle.sets.specs.Words.{wordsOf}
 use lib.Dec.{leb}
 use lib.ListN.{take}
 use Rattle.sets.specs.Bools.{_and_, _or_, isnt, all}
@@ -20,17 +21,17 @@ use Rattle.promises.specs.D1.{badges}
 
 -- n 6, T 1: two triangles, one of badges 0, 1 and 2 and one of 3, 4 and 5
 unfoldable pub apartWords : List ℕ
-apartWords = badges (1 ∷ 2 ∷ []) ∷ badges (0 ∷ 2 ∷ []) ∷ badges (0 ∷ 1 ∷ []) ∷ badges (4 ∷ 5 ∷ []) ∷ badges (3 ∷ 5 ∷ []) ∷ badges (3 ∷ 4 ∷ []) ∷ []
+apartWords = wordsOf (badges (1 ∷ 2 ∷ []) ∷ badges (0 ∷ 2 ∷ []) ∷ badges (0 ∷ 1 ∷ []) ∷ badges (4 ∷ 5 ∷ []) ∷ badges (3 ∷ 5 ∷ []) ∷ badges (3 ∷ 4 ∷ []) ∷ [])
 
 -- n 4, T 2: 0–1 and 2–3 in tick 0, and 0–1 alone in tick 1
 unfoldable pub leavingWords : List ℕ
-leavingWords = (badges (1 ∷ []) ∷ badges (0 ∷ []) ∷ badges (3 ∷ []) ∷ badges (2 ∷ []) ∷ []) ++ (badges (1 ∷ []) ∷ badges (0 ∷ []) ∷ badges [] ∷ badges [] ∷ [])
+leavingWords = wordsOf ((badges (1 ∷ []) ∷ badges (0 ∷ []) ∷ badges (3 ∷ []) ∷ badges (2 ∷ []) ∷ []) ++ (badges (1 ∷ []) ∷ badges (0 ∷ []) ∷ badges [] ∷ badges [] ∷ []))
 
 -- n 4, T 2: 0–1 and 2–3 in both ticks, 1–2 in tick 0 and 0–3 in tick 1
 unfoldable pub crossingWords : List ℕ
-crossingWords =
+crossingWords = wordsOf (
     (badges (1 ∷ []) ∷ badges (0 ∷ 2 ∷ []) ∷ badges (1 ∷ 3 ∷ []) ∷ badges (2 ∷ []) ∷ [])
-    ++ (badges (1 ∷ 3 ∷ []) ∷ badges (0 ∷ []) ∷ badges (3 ∷ []) ∷ badges (0 ∷ 2 ∷ []) ∷ [])
+    ++ (badges (1 ∷ 3 ∷ []) ∷ badges (0 ∷ []) ∷ badges (3 ∷ []) ∷ badges (0 ∷ 2 ∷ []) ∷ []))
 
 -- ---- other ways to make records of a day
 

@@ -3,8 +3,9 @@ use mathlib.Core.List.{List}
 use mathlib.Core.Logic.{_↔_}
 use mathlib.Core.Path.{_≡_}
 use Prim.Native.Nat.{ℕ, _≤_, _<_}
-use lib.ListN.{length, drop}
+use lib.ListN.{length, take, drop}
 use Rattle.sets.specs.Sets.{In}
+use Rattle.sets.specs.Words.{Words}
 use Rattle.records.specs.declared.record.Record.{Record}
 use Rattle.records.specs.Limits.{wordsFor}
 use Rattle.records.specs.Outcomes.{success}
@@ -12,10 +13,11 @@ use Rattle.records.specs.Logs.{IsLog, Met}
 use Rattle.days.specs.Days.{neighbours}
 use Rattle.days.specs.Calls.{Read}
 
--- Words that hold a day of contacts: bit v of word t×n+u is set exactly when u and v are in contact in tick t; the words after the first
--- n×T are as they were lent.
+-- Words that hold a day of contacts: the set of u in tick t has v exactly when u and v are in contact in tick t; each of the day's words is below 2 ^ 64,
+-- and the words after these are as they were lent.
 pub record HoldsDay (n T : ℕ) (InContact : ℕ → ℕ → ℕ → Type 0) (lent words : List ℕ) : Type 0 where
   pub marks : (t u v : ℕ) → t < T → u < n → In (neighbours n words t u) v ↔ InContact t u v
+  pub fit : Words (take (wordsFor n T) words)
   pub keeps : drop (wordsFor n T) words ≡ drop (wordsFor n T) lent
   pub long : length words ≡ length lent
 

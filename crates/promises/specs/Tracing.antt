@@ -2,6 +2,7 @@
 use mathlib.Core.List.{List, [], _∷_, _++_}
 use mathlib.Core.Path.{_≡_}
 use Prim.Native.Nat.{ℕ, _≤_, _<_}
+use Rattle.sets.specs.Words.{wordsOf}
 use lib.ListN.{length}
 use Rattle.records.specs.declared.record.Record.{Record}
 use Rattle.records.specs.Limits.{wordsFor}
@@ -64,25 +65,25 @@ SourcesLargest n T ws index s l = LargestSources (Contact n T ws) n index s l
 -- n 4, T 3: the path 0–1–2–3, met in rising ticks, 0–1 in tick 0, 1–2 in tick 1 and 2–3 in tick 2; in falling ticks, 2–3 in tick 0, 1–2 in tick 1 and 0–1
 -- in tick 2; and all at once, in tick 0
 unfoldable pub risingWords : List ℕ
-risingWords =
+risingWords = wordsOf (
     (badges (1 ∷ []) ∷ badges (0 ∷ []) ∷ badges [] ∷ badges [] ∷ [])
     ++ (badges [] ∷ badges (2 ∷ []) ∷ badges (1 ∷ []) ∷ badges [] ∷ [])
-    ++ (badges [] ∷ badges [] ∷ badges (3 ∷ []) ∷ badges (2 ∷ []) ∷ [])
+    ++ (badges [] ∷ badges [] ∷ badges (3 ∷ []) ∷ badges (2 ∷ []) ∷ []))
 
 unfoldable pub fallingWords : List ℕ
-fallingWords =
+fallingWords = wordsOf (
     (badges [] ∷ badges [] ∷ badges (3 ∷ []) ∷ badges (2 ∷ []) ∷ [])
     ++ (badges [] ∷ badges (2 ∷ []) ∷ badges (1 ∷ []) ∷ badges [] ∷ [])
-    ++ (badges (1 ∷ []) ∷ badges (0 ∷ []) ∷ badges [] ∷ badges [] ∷ [])
+    ++ (badges (1 ∷ []) ∷ badges (0 ∷ []) ∷ badges [] ∷ badges [] ∷ []))
 
 unfoldable pub atOnceWords : List ℕ
-atOnceWords =
+atOnceWords = wordsOf (
     (badges (1 ∷ []) ∷ badges (0 ∷ 2 ∷ []) ∷ badges (1 ∷ 3 ∷ []) ∷ badges (2 ∷ []) ∷ [])
     ++ (badges [] ∷ badges [] ∷ badges [] ∷ badges [] ∷ [])
-    ++ (badges [] ∷ badges [] ∷ badges [] ∷ badges [] ∷ [])
+    ++ (badges [] ∷ badges [] ∷ badges [] ∷ badges [] ∷ []))
 
 -- n 4, T 2: 0–1 and 0–2 in tick 0, and 1–3, 2–3 in tick 1: two badges may have passed on to badge 3
 unfoldable pub twoSourcesWords : List ℕ
-twoSourcesWords =
+twoSourcesWords = wordsOf (
     (badges (1 ∷ 2 ∷ []) ∷ badges (0 ∷ []) ∷ badges (0 ∷ []) ∷ badges [] ∷ [])
-    ++ (badges [] ∷ badges (3 ∷ []) ∷ badges (3 ∷ []) ∷ badges (1 ∷ 2 ∷ []) ∷ [])
+    ++ (badges [] ∷ badges (3 ∷ []) ∷ badges (3 ∷ []) ∷ badges (1 ∷ 2 ∷ []) ∷ []))

@@ -4,6 +4,7 @@ use mathlib.Core.Path.{_≡_}
 use Prim.Native.Nat.{ℕ, _≤_, _<_}
 use lib.ListN.{length, take, drop}
 use Rattle.sets.specs.Sets.{In}
+use Rattle.sets.specs.Words.{Words}
 use Rattle.records.specs.declared.record.Record.{Record}
 use Rattle.records.specs.Limits.{maxContacts, wordsFor}
 use Rattle.records.specs.Records.{encodeAll}
@@ -33,7 +34,7 @@ pub record Writes (read : List ℕ → List ℕ → Read) (write : ℕ → ℕ �
   -- more than 8,000 runs are refused by 15, whatever the buffer
   pub many : (n T : ℕ) (ws buffer : List ℕ) (runs : List Record) → HasRuns n T ws runs → maxContacts < length runs
       → write n T ws buffer ≡ record { answer = refused 15 0; buffer = buffer }
-  -- reading what was written gives the day back
-  pub back : (n T : ℕ) (ws lent : List ℕ) (runs : List Record) → HasRuns n T ws runs → length runs ≤ maxContacts → wordsFor n T ≤ length lent
+  -- reading what was written gives the day back, in words, each of which is below 2 ^ 64
+  pub back : (n T : ℕ) (ws lent : List ℕ) (runs : List Record) → HasRuns n T ws runs → Words ws → length runs ≤ maxContacts → wordsFor n T ≤ length lent
       → read (logBytes n T runs) lent
       ≡ record { answer = success (record { badges = n; ticks = T; contacts = length runs }); words = take (wordsFor n T) ws ++ drop (wordsFor n T) lent }

@@ -6,13 +6,14 @@ use native.Mathlib.Omega.{arith}
 use lib.ListN.{length, drop, replicate, length-append, length-drop}
 use lib.Seq.{drop-at}
 use Rattle.records.specs.declared.record.Record.{Record}
-use Rattle.records.specs.Limits.{wordsFor}
+use Rattle.sets.specs.Words.{Words}
+use Rattle.records.specs.Limits.{maxBadges, wordsFor}
 use Rattle.records.specs.Outcomes.{Outcome, refused, success}
 use Rattle.series.specs.Series.{parts, badgesIn, ticksIn, AllSized, daySize, allSize, judgeSeries, Size, commonSize}
 use Rattle.days.specs.Series.{daysOf, readSeriesOf}
 use Rattle.series.proofs.SeriesJudged.{series-passed, records-count, parts-count}
 use Rattle.days.proofs.SeriesLoops.{days-length}
-use Rattle.days.proofs.SeriesCall.{answer-refused, answer-read}
+use Rattle.days.proofs.SeriesCall.{series-badges, answer-refused, answer-read}
 use Rattle.receivers.specs.Joining.{Joinable, joinedDay, Join, joinOf}
 use Rattle.receivers.specs.Counting.{Combined}
 use Rattle.receivers.proofs.JoinCall.{joining, join-refused, join-success}
@@ -40,6 +41,7 @@ pub record Ready (logs lengths : List ℕ) (q : ℕ) (words work : List ℕ) (n 
   pub passed : judgeSeries (parts logs lengths) (length words) (length work) ≡ success all
   pub badges : badgesIn all ≡ n
   pub ticks : ticksIn all ≡ T
+  pub few : n ≤ maxBadges
   pub counted : length all ≡ length lengths
   pub sized : AllSized n T all
   pub room : wordsFor n T ≤ length words
@@ -63,6 +65,7 @@ ready {logs} {lengths} {q} {words} {work} {n} {T} filled j e f =
       passed = a .passed;
       badges = b;
       ticks = t;
+      few = rw (← b) (series-badges (parts logs lengths) (a .all) (p .judged));
       counted = c;
       sized = λ rs m. let s = p .sized rs m in record { badges = s .badges ∙ b; ticks = s .ticks ∙ t };
       room = rw (← size) (p .roomy);
@@ -79,17 +82,17 @@ module _ {logs lengths : List ℕ} {q : ℕ} {words work : List ℕ} {n T : ℕ}
   filled-long = ap length (r .days) ∙ length-append (daysOf (r .all)) _ ∙ omega (arith, days-long, length-drop (length lengths * wordsFor n T) work, r .enough)
 
   -- what counting and clearing leave is what the call shall leave
-  pub joined : (after sorted cleared : List ℕ) → length after ≡ length words → Combined q (length lengths) (wordsFor n T) filled words after
+  pub joined : (after sorted cleared : List ℕ) → length after ≡ length words → Words after → Combined q (length lengths) (wordsFor n T) filled words after
       → drop (length lengths * wordsFor n T) sorted ≡ drop (length lengths * wordsFor n T) filled
       → cleared ≡ replicate (length lengths * wordsFor n T) 0 ++ drop (length lengths * wordsFor n T) sorted
       → joinOf logs lengths q words work ≡ left (success (record { badges = n; ticks = T })) after cleared
   unfolding commonSize joinedDay
-  joined after sorted cleared l c k e =
+  joined after sorted cleared l fit c k e =
       let m = length lengths * wordsFor n T in
       let rest = drop m work in
       let counted : Combined q (length (r .all)) (wordsFor n T) (daysOf (r .all) ++ rest) words after = rw (r .counted, ← r .days) c in
       let day : after ≡ joining q (r .all) words work .words =
-      combined-day n T q (r .all) rest words after (r .sized) (r .tested .some) (omega (arith, r .room)) counted ∙ rw (r .badges, r .ticks) in
+      combined-day n T q (r .all) rest words after (r .few) (r .sized) (r .tested .some) (omega (arith, r .room)) fit counted ∙ rw (r .badges, r .ticks) in
       let zeros : cleared ≡ joining q (r .all) words work .work =
       e ∙ ap (λ (x : List ℕ). replicate m 0 ++ x) (k ∙ ap (drop m) (r .days) ∙ drop-at (daysOf (r .all)) rest m days-long) ∙ rw (r .badges, r .ticks, r .counted) in
       join-success logs lengths q words work (r .tested) (r .all) (r .passed)

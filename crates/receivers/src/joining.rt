@@ -9,6 +9,7 @@ use crate::refusal::Refusal;
 use days::Series;
 use days::clear;
 use days::read_series;
+use sets::SET_WORDS;
 
 // Joins from 2 to 4 logs that lie end to end, as the lengths say, into the words that are lent: word t×n+u has bit v set exactly when at least a quorum
 // of the logs have u and v in contact in tick t. Refused by 18, the logs in their order, 19 and 8; a refused call changes no word. The first n×T work
@@ -31,7 +32,7 @@ pub fn join(
         Series::Refused(refusal) => Joined::Refused(Refusal::Log(refusal)),
         Series::DifferentSizes => Joined::Refused(Refusal::DifferentShifts),
         Series::Read { badges, ticks } => {
-            let size = ticks * badges;
+            let size = ticks * badges * SET_WORDS;
             combine(work, lengths.len(), size, quorum, words);
             clear(&mut work[..lengths.len() * size]);
             Joined::Day { badges, ticks }

@@ -3,6 +3,7 @@ use mathlib.Core.Path.{_≡_}
 use mathlib.Core.Bool.{true}
 use Prim.Native.Nat.{ℕ, _≤_}
 use native.Mathlib.Nat.{mul-le-mul}
+use native.Mathlib.Omega.{arith}
 use borrow.Author.Tests.{leb-true, le-leb}
 use Rattle.sets.proofs.Bools.{and-in, and-left, and-right}
 use Rattle.records.specs.Limits.{maxBadges, maxTicks, withinLimits, wordsFor, maxWords}
@@ -34,4 +35,4 @@ limits-in {n} {T} l =
 
 -- within the limits a day takes at most 96 × 64 words
 pub words-most : (n T : ℕ) → Limits n T → wordsFor n T ≤ maxWords
-words-most n T l = mul-le-mul (l .short) (l .few)
+words-most n T l = omega (arith, mul-le-mul (l .short) (l .few))

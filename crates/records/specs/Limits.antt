@@ -3,6 +3,7 @@ use mathlib.Core.Bool.{Bool}
 use Prim.Native.Nat.{ℕ, _*_}
 use lib.Dec.{leb}
 use Rattle.sets.specs.Bools.{_and_}
+use Rattle.sets.specs.Words.{setWords}
 
 -- the most badges, ticks and contact records
 abbrev pub maxBadges : ℕ
@@ -22,9 +23,9 @@ maxLogBytes = 48010
 unfoldable pub withinLimits : ℕ → ℕ → Bool
 withinLimits n T = leb 1 n and leb n maxBadges and leb 1 T and leb T maxTicks
 
--- how many words a day of n badges and T ticks takes
+-- how many words a day of n badges and T ticks takes: those of a set for each badge and tick
 abbrev pub wordsFor : ℕ → ℕ → ℕ
-wordsFor n T = T * n
+wordsFor n T = T * n * setWords
 
 -- the words of the largest day, 64 badges and 96 ticks
 abbrev pub maxWords : ℕ

@@ -10,3 +10,6 @@ pub mod Walks
 pub mod Concat
 pub mod Pairwise
 pub mod Pigeonhole
+pub mod Blocks
+pub mod Words
+pub mod Places

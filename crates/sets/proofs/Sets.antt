@@ -8,7 +8,7 @@ use native.Mathlib.Nat.{le-refl, mod-lt, zero-lt-suc, pow-suc, le-of-suc-le-suc,
 use native.Mathlib.Decide.{ℕ-discrete}
 use native.Mathlib.Omega.{arith}
 use lib.Arith.{bin-ind, digits-div, digits-mod, lt-one}
-use lib.Bits.{bitXor}
+use lib.Bits.{bitXor, and-zero-r}
 use borrow.Author.Tests.{eqb-true, eqb-false, eq-eqb, lt-ltb, le-ltb}
 use Rattle.sets.specs.Sets.{bit, In, has, Sub, isSub, intersection, union, difference, symmetricDifference, only, digit, setOf, filterIn, filter, full}
 use Rattle.sets.specs.Members.{capacity, insert}
@@ -265,6 +265,15 @@ union-none s = ext _ s (λ u i. go u (of-union s 0 u i)) (in-union-left s 0)
     go : (u : ℕ) → In s u ⊎ In 0 u → In s u
     go u (inl i) = i
     go u (inr i) = absurd (not-in-none u i)
+
+-- a set without the empty one, and the empty one without a set
+pub difference-none : (s : ℕ) → difference s 0 ≡ s
+unfolding difference
+difference-none s = omega (arith, and-zero-r s)
+
+pub none-difference : (s : ℕ) → difference 0 s ≡ 0
+unfolding difference
+none-difference s = omega arith
 
 -- the symmetric difference with the same set twice changes nothing
 pub symmetric-twice : (s t : ℕ) → symmetricDifference (symmetricDifference s t) t ≡ s

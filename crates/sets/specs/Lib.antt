@@ -4,4 +4,5 @@ pub mod Sets
 pub mod Bytes
 pub mod Ascii
 pub mod Tables
+pub mod Words
 pub mod Members

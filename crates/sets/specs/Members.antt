@@ -1,17 +1,14 @@
 -- What a BadgeSet of the program stands for. Contracts name `members` and never the field, so a wider set changes this file alone.
 use mathlib.Core.Bool.{true, false}
-use Prim.Native.Nat.{ℕ}
+use Prim.Native.Nat.{ℕ, _*_}
 use lib.Dec.{ltb}
 use Rattle.sets.specs.declared.BadgeSet.{BadgeSet}
 use Rattle.sets.specs.Sets.{union, only}
+use Rattle.sets.specs.Words.{wordBits, setWords}
 
--- the bits of a word
-abbrev pub wordBits : ℕ
-wordBits = 64
-
--- a set, which is held in one word, holds badges below this number
+-- a set holds badges below this number
 abbrev pub capacity : ℕ
-capacity = wordBits
+capacity = setWords * wordBits
 
 -- the badges of a set, as a number
 abbrev pub members : BadgeSet → ℕ

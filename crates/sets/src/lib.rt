@@ -5,8 +5,15 @@ ghost use mathlib.Core.Path.{_≡_};
 ghost use Prim.Native.Nat.{_-_, min};
 ghost use lib.Dec.{eqb};
 ghost use Rattle.sets.specs.Sets.{has, isSub, intersection, union, difference, symmetricDifference, only, full, size, smallest};
+ghost use Rattle.sets.specs.Words.{setAt, putSet};
 ghost use Rattle.sets.specs.Members.{members, capacity, insert};
 pub use widening::widen;
+
+// How many words hold a set, in memory that is lent and in memory of one's own.
+pub const SET_WORDS: usize = 1;
+
+// How many badges there can be in a set.
+pub const CAPACITY: usize = 64;
 
 // Some of the badges 0 to 63: badge u is in the set when bit u is 1.
 pub struct BadgeSet {
@@ -149,5 +156,24 @@ impl BadgeSet {
         BadgeSet {
             bits: self.bits & (self.bits - 1),
         }
+    }
+}
+
+// The set at place i of sets that stand one after the other in words; the empty set where the words do not reach that far.
+pub fn set_at(words: &[u64], i: usize) -> BadgeSet
+    ensures { λ r. ⌜ members r ≡ setAt (now (words .entry)) i ⌝ }
+{
+    if i < words.len() {
+        return BadgeSet { bits: words[i] };
+    }
+    BadgeSet::EMPTY
+}
+
+// Puts a set at place i of sets that stand one after the other in words; changes nothing where the words do not reach that far.
+pub fn put_set(words: &mut [u64], i: usize, s: BadgeSet)
+    ensures { λ _. ⌜ now (words .exit) ≡ putSet (now (words .entry)) i (members s) ⌝ }
+{
+    if i < words.len() {
+        words[i] = s.bits;
     }
 }

@@ -1,14 +1,16 @@
 // The sweep over the ticks of a day, from the start tick on, into the bytes of the trace.
 ghost use mathlib.Core.Path.{_≡_};
 ghost use Prim.Native.Nat.{_+_, _≤_, _<_};
-ghost use lib.ListN.{length, getD, replicate};
+ghost use lib.ListN.{length, replicate};
 ghost use Rattle.sets.specs.Sets.{intersection};
 ghost use Rattle.sets.specs.Members.{capacity, members};
+ghost use Rattle.sets.specs.Words.{places, setAt};
 ghost use Rattle.chains.specs.Traces.{never};
 ghost use Rattle.chains.specs.Sweep.{traceBytes};
 ghost use Rattle.chains.specs.Judging.{StartOfDay};
 ghost use Rattle.trace.specs.Steps.{shown, reachedBy, PassedTick};
 use sets::BadgeSet;
+use sets::set_at;
 
 // In a trace: the tick of a badge that is never reached, and the source of a badge that has none.
 const NONE: u8 = 255;
@@ -46,17 +48,24 @@ fn reach(
     reached.with(u)
 }
 
-// Sweeps over tick t, whose words these are: looks at each badge that was not reached before, and gives those that may pass on in the next tick.
-fn pass_tick(trace: &mut [u8], tick: &[u64], t: u8, passing: BadgeSet) -> BadgeSet
-    requires { ⌜ (length (now tick) ≤ capacity) × (length (now trace) ≡ length (now tick) + length (now tick)) ⌝ }
-    ensures { λ r. ⌜ PassedTick (length (now (tick .entry))) (λ u. getD (now (tick .entry)) u 0) t (members passing) (members r) (now (trace .entry)) (now (trace .exit)) ⌝ }
+// Sweeps over tick t, whose sets are those from a place on: looks at each badge that was not reached before, and gives those that may pass on in the next
+// tick.
+fn pass_tick(
+    trace: &mut [u8],
+    words: &[u64],
+    n: usize,
+    base: usize,
+    t: u8,
+    passing: BadgeSet,
+) -> BadgeSet
+    requires { ⌜ (n ≤ capacity) × (base + n ≤ places (now words)) × (length (now trace) ≡ n + n) ⌝ }
+    ensures { λ r. ⌜ PassedTick n (λ u. setAt (now (words .entry)) (base + u)) t (members passing) (members r) (now (trace .entry)) (now (trace .exit)) ⌝ }
 {
-    let n = tick.len();
     let mut reached = passing;
     let mut unseen = BadgeSet::full(n).difference(passing);
     while !unseen.is_empty() {
         let u = unseen.smallest();
-        let row = BadgeSet::from_word(tick[u]);
+        let row = set_at(words, base + u);
         let next = reach(trace, n, u, t, row, passing, reached);
         reached = next;
         let rest = unseen.rest();
@@ -81,8 +90,7 @@ pub(crate) fn sweep(
     trace[index] = start as u8;
     let mut passing = BadgeSet::EMPTY.with(index);
     for t in start..ticks {
-        let base = t * n;
-        let next = pass_tick(trace, &words[base..base + n], t as u8, passing);
+        let next = pass_tick(trace, words, n, t * n, t as u8, passing);
         passing = next;
     }
 }

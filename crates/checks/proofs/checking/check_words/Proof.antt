@@ -25,6 +25,9 @@ inside c = sym (c .before .within-limits .ensures) ∙ not-false _ (c .if1 .left
 mul-if2 : tie.Need-mul-if2
 mul-if2 c = omega (arith, words-most _ _ (limits-of (inside c)))
 
+mul-if2-2 : tie.Need-mul-if2-2
+mul-if2-2 c = omega (arith, words-most _ _ (limits-of (inside c)))
+
 returns-2 : tie.Need-returns-2
 returns-2 c = sym (check-few _ _ _ (inside (c .before)) (c .if2 .taken))
 
@@ -44,4 +47,4 @@ returns-4 c =
 pub check-words-spec : {M : Type 1} → statement M
 check-words-spec =
     tie.close
-    (tie.spec within-limits-requires returns mul-if2 returns-2 is-day-requires returns-3 returns-4)
+    (tie.spec within-limits-requires returns mul-if2 mul-if2-2 returns-2 is-day-requires returns-3 returns-4)

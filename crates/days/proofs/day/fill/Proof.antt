@@ -49,6 +49,9 @@ same-record c = whole-part (sym (is-whole (c .before .before)) ∙ c .«record»
 mul-clear : tie.Need-mul-clear Inv-loop μ-loop
 mul-clear c = search needs
 
+mul-clear-2 : tie.Need-mul-clear-2 Inv-loop μ-loop
+mul-clear-2 c = search needs
+
 slice-relend-prefix-clear : tie.Need-slice-relend-prefix-clear Inv-loop μ-loop
 slice-relend-prefix-clear c = search needs
 
@@ -123,6 +126,7 @@ fill-spec =
     Inv-loop
     μ-loop
     mul-clear
+    mul-clear-2
     slice-relend-prefix-clear
     slice-aggregate-clear
     clear-requires

@@ -30,6 +30,9 @@ enum-known-badges c = search needs
 mul-if1 : tie.Need-mul-if1
 mul-if1 c = omega (arith, accepted-words (told (c .before)))
 
+mul-if1-2 : tie.Need-mul-if1-2
+mul-if1-2 c = omega (arith, accepted-words (told (c .before)))
+
 returns : tie.Need-returns
 returns c =
     let t = told (c .before .before) .accepts in
@@ -65,6 +68,7 @@ read-spec =
     enum-known-refusal
     enum-known-badges
     mul-if1
+    mul-if1-2
     returns
     fill-requires
     returns-2

@@ -64,6 +64,9 @@ fill-requires c κs = (next-accepts (c .before .before .before .before .before .
 mul-from : tie.Need-mul-from Inv-loop μ-loop
 mul-from c = omega (arith, fits (c .before .before .before .before .before), filling-long (c .before .before .before .before .before .before .before .before .loop .inv .1))
 
+mul-from-2 : tie.Need-mul-from-2 Inv-loop μ-loop
+mul-from-2 c = omega (arith, fits (c .before .before .before .before .before), filling-long (c .before .before .before .before .before .before .before .before .loop .inv .1))
+
 add-from : tie.Need-add-from Inv-loop μ-loop
 add-from c = omega (arith, fits (c .before .before .before .before .before), filling-long (c .before .before .before .before .before .before .before .before .loop .inv .1))
 
@@ -108,6 +111,7 @@ fill-all-spec =
     part-fill-end-2
     fill-requires
     mul-from
+    mul-from-2
     add-from
     add-i
     loop-less

@@ -27,6 +27,9 @@ returns c = leaves (call-different _ _ _ _ (told (c .before .before .before)) (n
 mul-size : tie.Need-mul-size
 mul-size c = omega (arith, told-most (told (c .before .before .before .before)))
 
+mul-size-2 : tie.Need-mul-size-2
+mul-size-2 c = omega (arith, told-most (told (c .before .before .before .before)))
+
 returns-2 : tie.Need-returns-2
 returns-2 c = leaves (call-little _ _ _ _ (told (c .before .before .before .before .before)) (not-false _ (c .before .before .if1 .left)) (c .if2 .taken))
 
@@ -58,6 +61,7 @@ read-series-spec =
     enum-known-sizes
     returns
     mul-size
+    mul-size-2
     returns-2
     fits-requires
     returns-3

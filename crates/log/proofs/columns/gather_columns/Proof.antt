@@ -4,7 +4,8 @@ use Prim.Native.Nat.{_+_, _*_, _-_, _≤_, min}
 use native.Mathlib.Omega.{arith}
 use borrow.Author.Needs.{needs}
 use Rattle.sets.specs.Sets.{difference, only, full}
-use Rattle.sets.specs.Members.{wordBits, capacity, members}
+use Rattle.sets.specs.Members.{capacity, members}
+use Rattle.sets.specs.Words.{wordBits}
 use Rattle.sets.proofs.Bits.{one-shl}
 use Rattle.days.specs.Days.{neighbours}
 use Rattle.days.proofs.Days.{tick-fits}
@@ -38,23 +39,17 @@ loop-holds c = let a = c .before .before .before .args in
     let m : min (a .u + 1) capacity ≡ a .u + 1 = omega arith in
     (search needs, c .before .full .ensures ∙ ap full m, rw (c .before .before .before .pre .3) (columns-none (a .n) (a .words .now) (a .u) (a .from)))
 
-add-from-word : tie.Need-add-from-word Inv-loop μ-loop
-add-from-word c = omega (arith, here c)
+add-set-at : tie.Need-add-set-at Inv-loop μ-loop
+add-set-at c = omega (arith, here c)
 
-mul-from-word : tie.Need-mul-from-word Inv-loop μ-loop
-mul-from-word c = omega (arith, here c)
+mul-set-at : tie.Need-mul-set-at Inv-loop μ-loop
+mul-set-at c = omega (arith, here c)
 
-add-from-word-2 : tie.Need-add-from-word-2 Inv-loop μ-loop
-add-from-word-2 c = omega (arith, here c)
+add-set-at-2 : tie.Need-add-set-at-2 Inv-loop μ-loop
+add-set-at-2 c = omega (arith, here c)
 
-mul-from-word-2 : tie.Need-mul-from-word-2 Inv-loop μ-loop
-mul-from-word-2 c = omega (arith, here c)
-
-shared-slice-read-from-word : tie.Need-shared-slice-read-from-word Inv-loop μ-loop
-shared-slice-read-from-word c = omega (arith, here (c .before))
-
-from-word-requires : tie.Need-from-word-requires Inv-loop μ-loop
-from-word-requires c κs = search needs
+set-at-requires : tie.Need-set-at-requires Inv-loop μ-loop
+set-at-requires c κs = search needs
 
 difference-requires : tie.Need-difference-requires Inv-loop μ-loop
 difference-requires c κs = search needs
@@ -63,7 +58,7 @@ shl-unite : tie.Need-shl-unite Inv-loop μ-loop
 shl-unite c = search needs
 
 unite-requires : tie.Need-unite-requires Inv-loop μ-loop
-unite-requires c κs = c .before .before .before .before .before .loop .inv .2 .whole
+unite-requires c κs = c .before .before .before .before .loop .inv .2 .whole
 
 add-t : tie.Need-add-t Inv-loop μ-loop
 add-t c = search needs
@@ -75,12 +70,12 @@ loop-again : tie.Need-loop-again Inv-loop μ-loop
 unfolding neighbours only
 loop-again c =
     let d = c .before in
-    let l = d .before .before .before .before .before .loop in
-    let a = d .before .before .before .before .before .before .before .before .before .args in
+    let l = d .before .before .before .before .loop in
+    let a = d .before .before .before .before .before .before .before .before .args in
     let row = neighbours (a .n) (a .words .now) (a .from + l .t) (a .u) in
     let e : c .unite .last .0 ≡ united (l .columns) (difference row (full (a .u + 1))) (only (l .t)) =
     c .unite .ensures
-    ∙ ap₂ (united (l .columns)) (d .difference .ensures ∙ ap₂ difference (d .before .before .from-word .ensures) (l .inv .1)) (one-shl (l .t) (omega arith)) in
+    ∙ ap₂ (united (l .columns)) (d .difference .ensures ∙ ap₂ difference (d .before .before .set-at .ensures) (l .inv .1)) (one-shl (l .t) (omega arith)) in
     (search needs, l .inv .1, rw e (columns-more (a .n) (a .words .now) (a .u) (a .from) (l .t) (l .inv .2)))
 
 returns : tie.Need-returns Inv-loop μ-loop
@@ -99,12 +94,10 @@ gather-columns-spec =
     full-requires
     window-requires
     loop-holds
-    add-from-word
-    mul-from-word
-    add-from-word-2
-    mul-from-word-2
-    shared-slice-read-from-word
-    from-word-requires
+    add-set-at
+    mul-set-at
+    add-set-at-2
+    set-at-requires
     difference-requires
     shl-unite
     unite-requires

@@ -2,7 +2,7 @@
 use mathlib.Core.Path.{sym}
 use native.Mathlib.Omega.{arith}
 use borrow.Author.Needs.{needs}
-use Rattle.sets.specs.Members.{wordBits}
+use Rattle.sets.specs.Words.{wordBits}
 use Rattle.log.proofs.TickSets.{all-but}
 use Rattle.log.proofs.ticks.complement.Statement.{statement}
 use Rattle.log.proofs.ticks.complement.Tie as tie

@@ -9,7 +9,7 @@ use lib.Count.{trailing-le}
 use lib.Pow.{pow-pos}
 use borrow.Author.Needs.{needs}
 use Rattle.sets.specs.Sets.{difference, full}
-use Rattle.sets.specs.Members.{wordBits}
+use Rattle.sets.specs.Words.{wordBits}
 use Rattle.sets.proofs.Bits.{one-shl}
 use Rattle.sets.proofs.Sets.{full-suc}
 use Rattle.sets.proofs.Smallest.{smallest-trailing}

@@ -9,6 +9,7 @@ use lib.Seq.{length-take-le}
 use borrow.Author.Needs.{needs}
 use borrow.Author.Tests.{not-true, not-false}
 use Rattle.sets.proofs.Bools.{clash}
+use Rattle.sets.specs.Words.{Words}
 use Rattle.records.specs.Limits.{wordsFor}
 use Rattle.days.specs.Series.{seriesOutcome}
 use Rattle.receivers.specs.Joining.{Joinable}
@@ -60,6 +61,9 @@ enum-known-badges c = search needs
 mul-size : tie.Need-mul-size
 mul-size c = omega (arith, read (c .before) .room)
 
+mul-size-2 : tie.Need-mul-size-2
+mul-size-2 c = omega (arith, read (c .before) .room)
+
 combine-requires : tie.Need-combine-requires
 combine-requires c κs = let r = read (c .before .before .before) in (r .tested .some, r .tested .most, omega (arith, r .enough, filled-long r), r .room)
 
@@ -100,7 +104,8 @@ returns-4 c =
     let b = c .before .before .before .before .before .before .before .before in
     let m = words (b .before .before .before .before) (logs (b .before .before .before .before)) in
     let sorted = b .combine .last .0 in
-    leaves (joined (read (b .before .before .before .before)) _ sorted _ (search needs) (b .combine .ensures .0) (b .combine .ensures .1)
+    let fit : Words (b .combine .last .1 .1 .1 .1 .0) = record { at = λ i l. omega (arith, c .before .before .before .before .slice-known5 .given i) } in
+    leaves (joined (read (b .before .before .before .before)) _ sorted _ (search needs) fit (b .combine .ensures .0) (b .combine .ensures .1)
     (ap (λ (x : List ℕ). x ++ drop m sorted) (c .before .before .clear .ensures ∙ ap (λ (k : ℕ). replicate k 0) (length-take-le m sorted (there b _ (omega arith))))))
 
 pub join-spec : {M : Type 1} → statement M
@@ -114,6 +119,7 @@ join-spec =
     enum-told
     enum-known-badges
     mul-size
+    mul-size-2
     combine-requires
     mul-clear
     slice-relend-prefix-clear

@@ -3,10 +3,11 @@
 use mathlib.Core.Path.{_≡_, refl, ap, _∙_}
 use Prim.Native.Nat.{ℕ, _+_, _<_, min}
 use native.Mathlib.Omega.{arith}
-use lib.ListN.{length, getD}
+use lib.ListN.{length}
 use borrow.Author.Needs.{needs}
 use Rattle.sets.specs.Sets.{In, intersection, difference, only, full, size}
 use Rattle.sets.specs.Members.{capacity, members}
+use Rattle.sets.specs.Words.{setAt}
 use Rattle.sets.proofs.Size.{size-without}
 use Rattle.sets.proofs.Walks.{rest-is, none-unseen}
 use Rattle.trace.proofs.Turns.{shown-long, Turned, all, turned-none, turned-at, turned-more, turned-done}
@@ -14,11 +15,11 @@ use Rattle.trace.proofs.sweeping.pass_tick.Statement.{statement}
 use Rattle.trace.proofs.sweeping.pass_tick.Tie as tie
 
 abbrev Inv-loop : tie.InvT-loop
-Inv-loop trace₀ tick t passing n reached₀ unseen₀ trace reached unseen =
-    (n ≡ length tick) × (length trace ≡ n + n) × Turned (length tick) (λ u. getD tick u 0) t (members passing) (members unseen) (members reached) trace₀ trace
+Inv-loop trace₀ words n base t passing reached₀ unseen₀ trace reached unseen =
+    (length trace ≡ n + n) × Turned n (λ u. setAt words (base + u)) t (members passing) (members unseen) (members reached) trace₀ trace
 
 abbrev μ-loop : tie.MeasureT-loop
-μ-loop trace₀ tick t passing n reached₀ unseen₀ trace reached unseen = size (members unseen)
+μ-loop trace₀ words n base t passing reached₀ unseen₀ trace reached unseen = size (members unseen)
 
 full-requires : tie.Need-full-requires Inv-loop μ-loop
 full-requires c κs = search needs
@@ -29,11 +30,11 @@ difference-requires c κs = search needs
 loop-holds : tie.Need-loop-holds Inv-loop μ-loop
 loop-holds c =
     let s = c .before .before .before .before in
-    let n = length (s .args .tick .now) in
+    let n = s .args .n in
     let e : min n capacity ≡ n = omega (arith, s .pre .0) in
-    let f : members (c .difference .result) ≡ all n (λ u. getD (s .args .tick .now) u 0) (s .args .t) (members (s .args .passing)) =
+    let f : members (c .difference .result) ≡ all n (λ u. setAt (s .args .words .now) (s .args .base + u)) (s .args .t) (members (s .args .passing)) =
     c .difference .ensures ∙ ap (λ (x : ℕ). difference x (members (s .args .passing))) (c .before .full .ensures ∙ ap full e) in
-    (refl, s .pre .1, rw f (turned-none n _ _ _ _))
+    (s .pre .2, rw f (turned-none n _ _ _ _))
 
 is-empty-requires : tie.Need-is-empty-requires Inv-loop μ-loop
 is-empty-requires c κs = search needs
@@ -43,31 +44,28 @@ smallest-requires c κs = search needs
 
 -- the badge at hand is one of the unseen, and of the tick
 unseen-in : (c : tie.After-smallest Inv-loop μ-loop) →
-    In (members (c .before .before .before .loop .unseen)) (c .smallest .result) × (c .smallest .result < length (c .before .before .before .before .before .before .before .before .args .tick .now))
+    In (members (c .before .before .before .loop .unseen)) (c .smallest .result) × (c .smallest .result < c .before .before .before .before .before .before .before .before .args .n)
 unseen-in c =
     let l = c .before .before .before in
-    turned-at _ _ _ _ (l .before .before .before .before .before .pre .0) (l .loop .inv .2) (c .before .before .is-empty .ensures) (c .before .if1 .taken) (c .smallest .ensures)
+    turned-at _ _ _ _ (l .before .before .before .before .before .pre .0) (l .loop .inv .1) (c .before .before .is-empty .ensures) (c .before .if1 .taken) (c .smallest .ensures)
 
 few : (c : tie.After-smallest Inv-loop μ-loop) → c .smallest .result < capacity
 few c = omega (arith, unseen-in c .1, c .before .before .before .before .before .before .before .before .pre .0)
 
-mul-from-word : tie.Need-mul-from-word Inv-loop μ-loop
-mul-from-word c = omega (arith, few c)
+add-set-at : tie.Need-add-set-at Inv-loop μ-loop
+add-set-at c = omega (arith, unseen-in c .1, c .before .before .before .before .before .before .before .before .pre .1)
 
-shared-slice-read-from-word : tie.Need-shared-slice-read-from-word Inv-loop μ-loop
-shared-slice-read-from-word c = unseen-in (c .before) .1
-
-from-word-requires : tie.Need-from-word-requires Inv-loop μ-loop
-from-word-requires c κs = search needs
+set-at-requires : tie.Need-set-at-requires Inv-loop μ-loop
+set-at-requires c κs = search needs
 
 reach-requires : tie.Need-reach-requires Inv-loop μ-loop
-reach-requires c κs = let m = c .before .before .before in (unseen-in m .1, m .before .before .before .before .before .before .before .before .pre .0, m .before .before .before .loop .inv .1)
+reach-requires c κs = let m = c .before .before in (unseen-in m .1, m .before .before .before .before .before .before .before .before .pre .0, m .before .before .before .loop .inv .0)
 
 rest-requires : tie.Need-rest-requires Inv-loop μ-loop
 rest-requires c κs = search needs
 
 abbrev at-smallest : tie.After-rest Inv-loop μ-loop → tie.After-smallest Inv-loop μ-loop
-at-smallest c = c .before .before .before .before .before .before .before
+at-smallest c = c .before .before .before .before .before .before
 
 -- those unseen after the badge's turn
 stepped : (c : tie.After-rest Inv-loop μ-loop) → let m = at-smallest c in members (c .rest .result) ≡ difference (members (m .before .before .before .loop .unseen)) (only (m .smallest .result))
@@ -83,15 +81,15 @@ loop-again c =
     let m = at-smallest c in
     let l = m .before .before .before in
     let a = l .before .before .before .before .before .args in
-    let e = ap (λ (x : ℕ). intersection x (members (a .passing))) (f .from-word .ensures) in
+    let e = ap (λ (x : ℕ). intersection x (members (a .passing))) (f .set-at .ensures) in
     let g = r .reach .ensures .1 in
-    (refl, ap length g ∙ shown-long _ _ _ _ _ ∙ l .loop .inv .1, rw (stepped c) (turned-more _ _ _ _ (m .smallest .result) (l .loop .inv .2) (unseen-in m .0) e (few m) (r .reach .ensures .0) g))
+    (ap length g ∙ shown-long _ _ _ _ _ ∙ l .loop .inv .0, rw (stepped c) (turned-more _ _ _ _ (m .smallest .result) (l .loop .inv .1) (unseen-in m .0) e (few m) (r .reach .ensures .0) g))
 
 same-length : tie.Need-same-length Inv-loop μ-loop
 same-length c = search needs
 
 returns : tie.Need-returns Inv-loop μ-loop
-returns c = turned-done _ _ _ _ (none-unseen (c .before .is-empty .ensures) (c .if1 .left)) (c .before .before .loop .inv .2)
+returns c = turned-done _ _ _ _ (none-unseen (c .before .is-empty .ensures) (c .if1 .left)) (c .before .before .loop .inv .1)
 
 pub pass-tick-spec : {M : Type 1} → statement M
 pass-tick-spec =
@@ -104,9 +102,8 @@ pass-tick-spec =
     loop-holds
     is-empty-requires
     smallest-requires
-    mul-from-word
-    shared-slice-read-from-word
-    from-word-requires
+    add-set-at
+    set-at-requires
     reach-requires
     rest-requires
     loop-less

@@ -5,10 +5,11 @@ use native.Mathlib.Omega.{arith}
 use lib.ListN.{length, replicate, length-replicate}
 use borrow.Author.Needs.{needs}
 use Rattle.sets.specs.Members.{capacity, members}
+use Rattle.sets.specs.Words.{places}
 use Rattle.records.specs.Limits.{maxTicks}
 use Rattle.chains.specs.Traces.{never}
 use Rattle.chains.proofs.Judging.{start-few}
-use Rattle.trace.proofs.SweepSteps.{Sweeping, sweeping-none, sweeping-room, sweeping-size, sweeping-long, sweeping-more, sweeping-done}
+use Rattle.trace.proofs.SweepSteps.{Sweeping, sweeping-none, sweeping-room, sweeping-long, sweeping-more, sweeping-done}
 use Rattle.trace.proofs.sweeping.sweep.Statement.{statement}
 use Rattle.trace.proofs.sweeping.sweep.Tie as tie
 
@@ -44,38 +45,20 @@ loop-holds c =
     sweeping-none d (start-few d .0) (c .with .ensures) (cleared k)
 
 -- the words of the tick are among the words
-inside : (c : tie.In-loop Inv-loop μ-loop) → let a = c .before .before .before .before .before .before .before .before .before .args in c .before .loop .t * a .n + a .n ≤ length (a .words .now)
+inside : (c : tie.In-loop Inv-loop μ-loop) → let a = c .before .before .before .before .before .before .before .before .before .args in c .before .loop .t * a .n + a .n ≤ places (a .words .now)
 inside c = sweeping-room (c .before .loop .inv) (c .loop-test .taken)
 
 few : (c : tie.In-loop Inv-loop μ-loop) → let a = c .before .before .before .before .before .before .before .before .before .args in (a .n ≤ capacity) × (a .ticks ≤ maxTicks)
 few c = start-few (c .before .loop .inv .asked)
 
-mul-base : tie.Need-mul-base Inv-loop μ-loop
-mul-base c = omega (arith, inside c)
-
-add-pass-tick : tie.Need-add-pass-tick Inv-loop μ-loop
-add-pass-tick c = omega (arith, inside (c .before))
-
 mul-pass-tick : tie.Need-mul-pass-tick Inv-loop μ-loop
 mul-pass-tick c = omega (arith, inside (c .before))
 
-sub-pass-tick : tie.Need-sub-pass-tick Inv-loop μ-loop
-sub-pass-tick c = search needs
-
-part-pass-tick-start : tie.Need-part-pass-tick-start Inv-loop μ-loop
-part-pass-tick-start c = search needs
-
-part-pass-tick-end : tie.Need-part-pass-tick-end Inv-loop μ-loop
-part-pass-tick-end c = omega (arith, inside (c .before))
-
 cast-pass-tick : tie.Need-cast-pass-tick Inv-loop μ-loop
-cast-pass-tick c = let l = c .before .before in omega (arith, few l .1, l .loop-test .taken)
+cast-pass-tick c = let l = c .before in omega (arith, few l .1, l .loop-test .taken)
 
 pass-tick-requires : tie.Need-pass-tick-requires Inv-loop μ-loop
-pass-tick-requires c κs =
-    let l = c .before .before in
-    let k = sweeping-size (l .before .loop .inv) (l .loop-test .taken) in
-    (omega (arith, k, few l .0), sweeping-long (l .before .loop .inv) ∙ omega (arith, k))
+pass-tick-requires c κs = let l = c .before in (few l .0, inside l, sweeping-long (l .before .loop .inv))
 
 add-t : tie.Need-add-t Inv-loop μ-loop
 add-t c = search needs
@@ -84,7 +67,7 @@ loop-less : tie.Need-loop-less Inv-loop μ-loop
 loop-less c = search needs
 
 loop-again : tie.Need-loop-again Inv-loop μ-loop
-loop-again c = let p = c .before .before in let l = p .before .before .before in sweeping-more (l .before .loop .inv) (l .loop-test .taken) (p .pass-tick .ensures)
+loop-again c = let p = c .before .before in let l = p .before .before in sweeping-more (l .before .loop .inv) (l .loop-test .taken) (p .pass-tick .ensures)
 
 same-length : tie.Need-same-length Inv-loop μ-loop
 same-length c = sweeping-long (c .before .loop .inv) ∙ sym (c .before .before .before .before .before .before .before .before .before .pre .1)
@@ -103,12 +86,7 @@ sweep-spec =
     slice-write-trace
     with-requires
     loop-holds
-    mul-base
-    add-pass-tick
     mul-pass-tick
-    sub-pass-tick
-    part-pass-tick-start
-    part-pass-tick-end
     cast-pass-tick
     pass-tick-requires
     add-t
