@@ -10,6 +10,10 @@ use Rattle.sets.specs.Words.{wordBits, setWords}
 abbrev pub capacity : ℕ
 capacity = setWords * wordBits
 
+-- the words of a row for each badge that a set can hold
+abbrev pub rowWords : ℕ
+rowWords = capacity * setWords
+
 -- the badges of a set, as a number
 abbrev pub members : BadgeSet → ℕ
 members s = s .bits

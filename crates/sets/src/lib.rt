@@ -9,11 +9,15 @@ ghost use Rattle.sets.specs.Words.{setAt, putSet};
 ghost use Rattle.sets.specs.Members.{members, capacity, insert};
 pub use widening::widen;
 
-// How many words hold a set, in memory that is lent and in memory of one's own.
+// The bits of a word; how many words hold a set, in memory that is lent and in memory of one's own; how many badges there can be in a set; and the words of
+// a row for each of them.
+pub const WORD_BITS: usize = 64;
+
 pub const SET_WORDS: usize = 1;
 
-// How many badges there can be in a set.
 pub const CAPACITY: usize = 64;
+
+pub const ROW_WORDS: usize = CAPACITY * SET_WORDS;
 
 // Some of the badges 0 to 63: badge u is in the set when bit u is 1.
 pub struct BadgeSet {
