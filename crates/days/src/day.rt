@@ -18,12 +18,39 @@ use sets::SET_WORDS;
 use sets::put_set;
 use sets::set_at;
 
-// All words are zero.
-pub fn clear(words: &mut [u64])
+// How many words are cleared at once. A compiler makes a call of a loop that clears words; for so few words the call takes several at once, and for many it
+// may take a step for each byte.
+const PART: usize = 128;
+
+// All words of a part are zero.
+fn clear_part(words: &mut [u64])
     ensures { λ _. ⌜ now (words .exit) ≡ replicate (length (now (words .entry))) 0 ⌝ }
 {
     for i in 0..words.len() {
         words[i] = 0;
+    }
+}
+
+// Where the part ends that starts at a word: after as many as are cleared at once, or where the words end.
+fn part_end(at: usize, words: usize) -> usize
+    requires { ⌜ at < words ⌝ }
+    ensures { λ r. ⌜ (at < r) × (r ≤ words) ⌝ }
+{
+    if words - at < PART {
+        return words;
+    }
+    at + PART
+}
+
+// All words are zero.
+pub fn clear(words: &mut [u64])
+    ensures { λ _. ⌜ now (words .exit) ≡ replicate (length (now (words .entry))) 0 ⌝ }
+{
+    let mut at: usize = 0;
+    while at < words.len() {
+        let end = part_end(at, words.len());
+        clear_part(&mut words[at..end]);
+        at = end;
     }
 }
 

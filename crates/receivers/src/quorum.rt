@@ -6,7 +6,6 @@ ghost use mathlib.Core.Path.{_≡_};
 ghost use Prim.Native.Nat.{ℕ, _+_, _*_, _≤_};
 ghost use lib.ListN.{length, drop};
 ghost use Rattle.receivers.specs.Counting.{Exchanged, Sorted, Copied, Combined};
-use sets::BadgeSet;
 
 // The compare-exchange of a sort, for all bits of two parts: the first gets the larger of two bits, so the union of the sets, and the second the smaller,
 // so the intersection.
@@ -17,10 +16,10 @@ fn compare_exchange(work: &mut [u64], first: usize, second: usize, size: usize)
     for i in 0..size {
         let a = first + i;
         let b = second + i;
-        let one = BadgeSet::from_word(work[a]);
-        let other = BadgeSet::from_word(work[b]);
-        work[a] = one.union(other).to_word();
-        work[b] = one.intersection(other).to_word();
+        let one = work[a];
+        let other = work[b];
+        work[a] = one | other;
+        work[b] = one & other;
     }
 }
 
