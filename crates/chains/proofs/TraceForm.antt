@@ -4,6 +4,7 @@ use mathlib.Core.List.{List}
 use mathlib.Core.Logic.{_⊎_, inl, inr, _↔_, by-cases}
 use Prim.Native.Nat.{ℕ, suc, _+_, _-_, _^_, _≤_, _<_}
 use native.Mathlib.Decide.{decLt, ℕ-discrete}
+use native.Mathlib.Nat.{lt-of-lt-of-le}
 use native.Mathlib.Omega.{arith}
 use lib.ListN.{length}
 use lib.Pow.{pow-mono}
@@ -135,7 +136,7 @@ module _ (n T : ℕ) (ws : List ℕ) (index s : ℕ) (d : StartOfDay n T ws inde
       small : both < 2 ^ capacity
       small =
           let a = sub-lt n both (rows (s + j) u) (record { at = λ v h. of-intersection-left _ _ v h }) (d .lent .day .tick (s + j) l .within u k) in
-          omega (arith, a, pow-mono (limits-of (d .lent .limits) .few))
+          lt-of-lt-of-le a (pow-mono (limits-of (d .lent .limits) .few))
 
       contact : (w : ℕ) → In both w → Contact n T ws (s + j) w u
       contact w h =

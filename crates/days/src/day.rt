@@ -15,8 +15,7 @@ use records::decode;
 use records::kind_of;
 use records::size_of;
 use sets::SET_WORDS;
-use sets::put_set;
-use sets::set_at;
+use sets::insert_at;
 
 // How many words are cleared at once. A compiler makes a call of a loop that clears words; for so few words the call takes several at once, and for many it
 // may take a step for each byte.
@@ -59,12 +58,9 @@ fn mark_pair(words: &mut [u64], n: usize, t: usize, a: usize, b: usize)
     requires { ⌜ (n ≤ maxBadges) × (a < n) × (b < n) × (t * n + n ≤ places (now words)) ⌝ }
     ensures { λ _. ⌜ now (words .exit) ≡ marked n (marked n (now (words .entry)) t a b) t b a ⌝ }
 {
-    let i = t * n + a;
-    let j = t * n + b;
-    let contacts = set_at(words, i);
-    put_set(words, i, contacts.with(b));
-    let others = set_at(words, j);
-    put_set(words, j, others.with(a));
+    let base = t * n;
+    insert_at(words, base + a, b);
+    insert_at(words, base + b, a);
 }
 
 // Badges a and b are in contact in the ticks from first to last.

@@ -12,4 +12,6 @@ pub mod Pairwise
 pub mod Pigeonhole
 pub mod Blocks
 pub mod Words
+pub mod WordByWord
 pub mod Places
+pub mod OneWord

@@ -36,13 +36,13 @@ one-word ws i = by-cases (decLt i (length ws))
     (λ h. List·getD-eq-default ws 0 {n = i} (omega arith) ∙ sym (set-at-out ws i (omega arith)))
 
 -- the words at a place are as many as a set has, and those
-at-length : (ws : List ℕ) (i : ℕ) → i < places ws → length (wordsAt ws i) ≡ setWords
+pub at-length : (ws : List ℕ) (i : ℕ) → i < places ws → length (wordsAt ws i) ≡ setWords
 at-length ws i h = length-take-le setWords (drop (i * setWords) ws) (rw length-drop (omega arith))
 
-at-word : (ws : List ℕ) (i j : ℕ) → j < setWords → getD (wordsAt ws i) j 0 ≡ getD ws (i * setWords + j) 0
+pub at-word : (ws : List ℕ) (i j : ℕ) → j < setWords → getD (wordsAt ws i) j 0 ≡ getD ws (i * setWords + j) 0
 at-word ws i j h = getD-take setWords (drop (i * setWords) ws) j 0 h ∙ getD-drop (i * setWords) ws j 0
 
-at-words : (ws : List ℕ) (i : ℕ) → i < places ws → Words ws → Words (wordsAt ws i)
+pub at-words : (ws : List ℕ) (i : ℕ) → i < places ws → Words ws → Words (wordsAt ws i)
 at-words ws i h w = record {
   at = λ j l.
       let k : j < setWords = omega (arith, at-length ws i h) in
