@@ -1,8 +1,8 @@
 -- The worked example of README: a small log made by hand, and what the calls and the listing program make of it. What a row says is in Rows.
 use mathlib.Core.List.{List, [], _∷_, _++_}
-use Prim.Native.Nat.{ℕ}
+use Prim.Native.Nat.{ℕ, _*_}
 use lib.ListN.{replicate}
-use Rattle.sets.specs.Words.{wordsOf}
+use Rattle.sets.specs.Words.{setWords, wordsOf}
 use Rattle.sets.specs.Sets.{full}
 use Rattle.records.specs.Outcomes.{success}
 use Rattle.chains.specs.Traces.{never, noSource}
@@ -10,7 +10,7 @@ use Rattle.thresholds.specs.Ranges.{leastOf, plain}
 use Rattle.promises.specs.D1.{badges}
 use Rattle.cases.specs.RecordBytes.{BH, CT, ED, RH, GR, PH, PT}
 use Rattle.cases.specs.Rows.{Row, read, join, tidy, trace, core-numbers, report, plan, plan-sum, plan-ends, cut-sum, listing, length-of}
-use Rattle.cases.specs.Table.{sevens, accepted, sized}
+use Rattle.cases.specs.Table.{sevens, room, accepted, sized}
 
 -- five badges, four ticks, in arrival order: 2–0 in ticks 0 to 1, 0–1 in ticks 0 to 2, 1–2 in ticks 0 to 1 and, from the other side, in
 -- tick 2, and 3–4 in ticks 1 to 3
@@ -47,8 +47,8 @@ bothWords = wordsOf (
 unfoldable pub example : List Row
 example =
     length-of exampleLog 40
-    ∷ read exampleLog (sevens 20) (accepted 5 4 5) exampleWords
-    ∷ tidy exampleLog (sevens 20) (sevens 34) (success 34) exampleWords exampleTidy
+    ∷ read exampleLog (room 20) (accepted 5 4 5) exampleWords
+    ∷ tidy exampleLog (room 20) (sevens 34) (success 34) exampleWords exampleTidy
     ∷ core-numbers 5 4 exampleWords (full 5) 0 1 (sevens 5) (success 5) (2 ∷ 2 ∷ 2 ∷ 0 ∷ 0 ∷ [])
     ∷ report 5 4 exampleWords (full 5) plain (sevens 49) (success 49) (RH 5 4 ++ GR 2 0 1 (badges (0 ∷ 1 ∷ 2 ∷ [])) ++ GR 1 0 2 (badges (0 ∷ 1 ∷ 2 ∷ [])) ++ GR 1 1 3 (badges (3 ∷ 4 ∷ [])) ++ ED 3)
     -- with a least length of three ticks, and with a least order of 2
@@ -70,7 +70,7 @@ example =
     -- two receivers: what one of them heard is the day above; what both heard, and its groups
     ∷ length-of eastLog 40
     ∷ length-of westLog 34
-    ∷ join (eastLog ++ westLog) (40 ∷ 34 ∷ []) 1 (sevens 20) (sevens 40) (sized 5 4) exampleWords (replicate 40 0)
-    ∷ join (eastLog ++ westLog) (40 ∷ 34 ∷ []) 2 (sevens 20) (sevens 40) (sized 5 4) bothWords (replicate 40 0)
+    ∷ join (eastLog ++ westLog) (40 ∷ 34 ∷ []) 1 (room 20) (room 40) (sized 5 4) exampleWords (replicate (40 * setWords) 0)
+    ∷ join (eastLog ++ westLog) (40 ∷ 34 ∷ []) 2 (room 20) (room 40) (sized 5 4) bothWords (replicate (40 * setWords) 0)
     ∷ report 5 4 bothWords (full 5) plain (sevens 49) (success 49) (RH 5 4 ++ GR 2 1 1 (badges (0 ∷ 1 ∷ 2 ∷ [])) ++ GR 1 1 2 (badges (0 ∷ 1 ∷ 2 ∷ [])) ++ GR 1 2 3 (badges (3 ∷ 4 ∷ [])) ++ ED 3)
     ∷ []

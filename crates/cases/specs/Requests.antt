@@ -1,8 +1,8 @@
 -- Worked cases of the requests of document 02, request by request. What a row says is in Rows.
 use mathlib.Core.List.{List, [], _∷_, _++_}
-use Prim.Native.Nat.{ℕ}
+use Prim.Native.Nat.{ℕ, _*_}
 use lib.ListN.{replicate}
-use Rattle.sets.specs.Words.{wordsOf}
+use Rattle.sets.specs.Words.{setWords, wordsOf}
 use Rattle.sets.specs.Sets.{full}
 use Rattle.records.specs.Outcomes.{refused, success}
 use Rattle.chains.specs.Traces.{never, noSource}
@@ -13,7 +13,7 @@ use Rattle.promises.specs.Circles.{apartWords, leavingWords, crossingWords}
 use Rattle.promises.specs.Tracing.{risingWords, fallingWords, atOnceWords, twoSourcesWords}
 use Rattle.cases.specs.RecordBytes.{BH, CT, ED, RH, GR, PH, PT}
 use Rattle.cases.specs.Rows.{Row, join, tidy, trace, core-numbers, report, plan, plan-ends, cut-sum, listing, length-of}
-use Rattle.cases.specs.Table.{sevens, sized, d1Log, emptyLog, emptyWords, equalBadges}
+use Rattle.cases.specs.Table.{sevens, room, less, more, sized, d1Log, emptyLog, emptyWords, equalBadges}
 
 -- reports of D1 that keep one of its two groups, "order 2, 0 to 1, {0,1,2}" and "order 1, 0 to 2, {2,3}", and none
 unfoldable pub triple : List ℕ
@@ -93,21 +93,21 @@ requested =
     ∷ report 4 3 d1Words (full 4) (leastOf 1 1 65) (sevens 36) (refused 17 0) (sevens 36)
     -- "after 11 and before 9"
     ∷ report 4 3 d1Words (full 4) (leastOf 0 1 2) (sevens 3) (refused 17 0) (sevens 3)
-    ∷ report 4 3 (sevens 12) (full 4) (leastOf 0 1 2) (sevens 36) (refused 11 0) (sevens 36)
-    ∷ report 4 3 (sevens 11) (full 4) (leastOf 0 1 2) (sevens 36) (refused 8 0) (sevens 36)
+    ∷ report 4 3 (room 12) (full 4) (leastOf 0 1 2) (sevens 36) (refused 11 0) (sevens 36)
+    ∷ report 4 3 (less 12) (full 4) (leastOf 0 1 2) (sevens 36) (refused 8 0) (sevens 36)
     ∷ report 4 0 [] (full 4) (leastOf 0 1 2) (sevens 36) (refused 10 0) (sevens 36)
     -- "Two. .. Joining runs can't produce more records than came in": as many where no two touch, and one where all do
-    ∷ tidy (BH 2 5 ++ CT 0 1 4 4 ++ CT 1 0 0 0 ++ CT 0 1 2 2 ++ ED 3) (sevens 10) (sevens 28) (success 28) (2 ∷ 1 ∷ 0 ∷ 0 ∷ 2 ∷ 1 ∷ 0 ∷ 0 ∷ 2 ∷ 1 ∷ []) (BH 2 5 ++ CT 0 1 0 0 ++ CT 0 1 2 2 ++ CT 0 1 4 4 ++ ED 3)
-    ∷ tidy (BH 2 3 ++ CT 0 1 2 2 ++ CT 1 0 0 0 ++ CT 0 1 1 1 ++ ED 3) (sevens 6) (sevens 16) (success 16) (2 ∷ 1 ∷ 2 ∷ 1 ∷ 2 ∷ 1 ∷ []) (BH 2 3 ++ CT 0 1 0 2 ++ ED 1)
+    ∷ tidy (BH 2 5 ++ CT 0 1 4 4 ++ CT 1 0 0 0 ++ CT 0 1 2 2 ++ ED 3) (room 10) (sevens 28) (success 28) (wordsOf (2 ∷ 1 ∷ 0 ∷ 0 ∷ 2 ∷ 1 ∷ 0 ∷ 0 ∷ 2 ∷ 1 ∷ [])) (BH 2 5 ++ CT 0 1 0 0 ++ CT 0 1 2 2 ++ CT 0 1 4 4 ++ ED 3)
+    ∷ tidy (BH 2 3 ++ CT 0 1 2 2 ++ CT 1 0 0 0 ++ CT 0 1 1 1 ++ ED 3) (room 6) (sevens 16) (success 16) (wordsOf (2 ∷ 1 ∷ 2 ∷ 1 ∷ 2 ∷ 1 ∷ [])) (BH 2 3 ++ CT 0 1 0 2 ++ ED 1)
     -- "The order of tidy becomes log, 8, 9", each with all that come after it
-    ∷ tidy (BH 2 3 ++ CT 0 1 0 2 ++ ED 2) (sevens 5) (sevens 15) (refused 6 10) (sevens 5) (sevens 15)
-    ∷ tidy (BH 2 3 ++ CT 0 1 0 2 ++ ED 1) (sevens 5) (sevens 15) (refused 8 0) (sevens 5) (sevens 15)
-    ∷ tidy (BH 2 3 ++ CT 0 1 0 2 ++ ED 1) (sevens 6) (sevens 15) (refused 9 0) (2 ∷ 1 ∷ 2 ∷ 1 ∷ 2 ∷ 1 ∷ []) (sevens 15)
+    ∷ tidy (BH 2 3 ++ CT 0 1 0 2 ++ ED 2) (less 6) (sevens 15) (refused 6 10) (less 6) (sevens 15)
+    ∷ tidy (BH 2 3 ++ CT 0 1 0 2 ++ ED 1) (less 6) (sevens 15) (refused 8 0) (less 6) (sevens 15)
+    ∷ tidy (BH 2 3 ++ CT 0 1 0 2 ++ ED 1) (room 6) (sevens 15) (refused 9 0) (wordsOf (2 ∷ 1 ∷ 2 ∷ 1 ∷ 2 ∷ 1 ∷ [])) (sevens 15)
     -- "Three. .. For D1, query {2} and h 2 the ends are 0 and 2."
     ∷ plan-ends 4 3 d1Words (full 4) (badges (2 ∷ [])) 2 (0 ∷ 2 ∷ [])
     ∷ plan 4 3 d1Words (full 4) (badges (2 ∷ [])) 2 (sevens 45) (success 45) (PH 4 3 2 (badges (2 ∷ [])) ++ PT 2 0 0 (badges (0 ∷ 1 ∷ 2 ∷ [])) ++ PT 1 1 2 (badges (2 ∷ 3 ∷ [])) ++ ED 2)
     -- where no badge met another, every cutting has the sum 0, and the first has all parts but the last of one tick
-    ∷ plan-ends 3 5 (replicate 15 0) (full 3) (badges (0 ∷ [])) 3 (0 ∷ 1 ∷ 4 ∷ [])
+    ∷ plan-ends 3 5 (replicate (15 * setWords) 0) (full 3) (badges (0 ∷ [])) 3 (0 ∷ 1 ∷ 4 ∷ [])
     -- "compared number by number", from the first on: 0, 3, 4 and 1, 2, 4 have the same sum, and so have 2, 3, 4
     ∷ plan-ends 3 5 tiesWords (full 3) (badges (0 ∷ [])) 3 (0 ∷ 3 ∷ 4 ∷ [])
     ∷ cut-sum 3 tiesWords (full 3) (badges (0 ∷ [])) (0 ∷ 3 ∷ 4 ∷ []) 3
@@ -115,35 +115,35 @@ requested =
     ∷ cut-sum 3 tiesWords (full 3) (badges (0 ∷ [])) (2 ∷ 3 ∷ 4 ∷ []) 3
     -- "Four. .. A contact counts if at least q receivers heard it": one of two misses 0–1; words after the day and work words after those of each log stay
     ∷ length-of missing 28
-    ∷ join (d1Log ++ missing) (34 ∷ 28 ∷ []) 1 (sevens 12) (sevens 24) (sized 4 3) d1Words (replicate 24 0)
-    ∷ join (d1Log ++ missing) (34 ∷ 28 ∷ []) 2 (sevens 13) (sevens 26) (sized 4 3) (missingWords ++ 7 ∷ []) (replicate 24 0 ++ 7 ∷ 7 ∷ [])
+    ∷ join (d1Log ++ missing) (34 ∷ 28 ∷ []) 1 (room 12) (room 24) (sized 4 3) d1Words (replicate (24 * setWords) 0)
+    ∷ join (d1Log ++ missing) (34 ∷ 28 ∷ []) 2 (more 12 1) (more 24 2) (sized 4 3) (missingWords ++ 7 ∷ []) (replicate (24 * setWords) 0 ++ 7 ∷ 7 ∷ [])
     -- "a receiver that logs it twice counts once": one that says 2–3 twice, with one that says nothing, and with D1's
     ∷ length-of repeating 22
-    ∷ join (repeating ++ emptyLog) (22 ∷ 10 ∷ []) 1 (sevens 12) (sevens 24) (sized 4 3) repeatingWords (replicate 24 0)
-    ∷ join (repeating ++ emptyLog) (22 ∷ 10 ∷ []) 2 (sevens 12) (sevens 24) (sized 4 3) emptyWords (replicate 24 0)
-    ∷ join (repeating ++ d1Log) (22 ∷ 34 ∷ []) 2 (sevens 12) (sevens 24) (sized 4 3) repeatingWords (replicate 24 0)
+    ∷ join (repeating ++ emptyLog) (22 ∷ 10 ∷ []) 1 (room 12) (room 24) (sized 4 3) repeatingWords (replicate (24 * setWords) 0)
+    ∷ join (repeating ++ emptyLog) (22 ∷ 10 ∷ []) 2 (room 12) (room 24) (sized 4 3) emptyWords (replicate (24 * setWords) 0)
+    ∷ join (repeating ++ d1Log) (22 ∷ 34 ∷ []) 2 (room 12) (room 24) (sized 4 3) repeatingWords (replicate (24 * setWords) 0)
     -- three logs and four: 0–1 is heard by one of three, and 2–3 by all
-    ∷ join (d1Log ++ missing ++ repeating) (34 ∷ 28 ∷ 22 ∷ []) 2 (sevens 12) (sevens 36) (sized 4 3) missingWords (replicate 36 0)
-    ∷ join (d1Log ++ missing ++ repeating ++ d1Log) (34 ∷ 28 ∷ 22 ∷ 34 ∷ []) 4 (sevens 12) (sevens 48) (sized 4 3) repeatingWords (replicate 48 0)
+    ∷ join (d1Log ++ missing ++ repeating) (34 ∷ 28 ∷ 22 ∷ []) 2 (room 12) (room 36) (sized 4 3) missingWords (replicate (36 * setWords) 0)
+    ∷ join (d1Log ++ missing ++ repeating ++ d1Log) (34 ∷ 28 ∷ 22 ∷ 34 ∷ []) 4 (room 12) (room 48) (sized 4 3) repeatingWords (replicate (48 * setWords) 0)
     -- "19, n or T differs from the first log, judged after all logs pass and before 8"
-    ∷ join (d1Log ++ fourTicks) (34 ∷ 34 ∷ []) 1 (sevens 12) (sevens 32) (refused 19 0) (sevens 12) (sevens 32)
+    ∷ join (d1Log ++ fourTicks) (34 ∷ 34 ∷ []) 1 (room 12) (room 32) (refused 19 0) (room 12) (room 32)
     ∷ join (d1Log ++ fourTicks) (34 ∷ 34 ∷ []) 1 [] [] (refused 19 0) [] []
     ∷ join (d1Log ++ fourTicks ++ equalBadges) (34 ∷ 34 ∷ 16 ∷ []) 1 [] [] (refused 4 72) [] []
     -- "Offsets count from the start of the buffer", each log is judged within its length, and an empty one gets 1 where it would start
-    ∷ join (d1Log ++ equalBadges) (34 ∷ 16 ∷ []) 1 (sevens 12) (sevens 24) (refused 4 38) (sevens 12) (sevens 24)
-    ∷ join (d1Log ++ emptyLog) (33 ∷ 11 ∷ []) 1 (sevens 12) (sevens 24) (refused 1 28) (sevens 12) (sevens 24)
-    ∷ join (d1Log ++ emptyLog) (35 ∷ 9 ∷ []) 1 (sevens 12) (sevens 24) (refused 7 34) (sevens 12) (sevens 24)
-    ∷ join (d1Log ++ d1Log) (34 ∷ 0 ∷ 34 ∷ []) 1 (sevens 12) (sevens 36) (refused 1 34) (sevens 12) (sevens 36)
+    ∷ join (d1Log ++ equalBadges) (34 ∷ 16 ∷ []) 1 (room 12) (room 24) (refused 4 38) (room 12) (room 24)
+    ∷ join (d1Log ++ emptyLog) (33 ∷ 11 ∷ []) 1 (room 12) (room 24) (refused 1 28) (room 12) (room 24)
+    ∷ join (d1Log ++ emptyLog) (35 ∷ 9 ∷ []) 1 (room 12) (room 24) (refused 7 34) (room 12) (room 24)
+    ∷ join (d1Log ++ d1Log) (34 ∷ 0 ∷ 34 ∷ []) 1 (room 12) (room 36) (refused 1 34) (room 12) (room 36)
     -- "18, number of logs or q outside its limits, or lengths that don't add up to the buffer, judged before any log"; the third sum is 34 at 64 bits
-    ∷ join d1Log (34 ∷ []) 1 (sevens 12) (sevens 12) (refused 18 0) (sevens 12) (sevens 12)
-    ∷ join (emptyLog ++ emptyLog ++ emptyLog ++ emptyLog ++ emptyLog) (10 ∷ 10 ∷ 10 ∷ 10 ∷ 10 ∷ []) 1 (sevens 12) (sevens 60) (refused 18 0) (sevens 12) (sevens 60)
-    ∷ join d1Log (18446744073709551615 ∷ 35 ∷ []) 1 (sevens 12) (sevens 24) (refused 18 0) (sevens 12) (sevens 24)
-    ∷ join (d1Log ++ equalBadges) (34 ∷ 15 ∷ []) 1 (sevens 12) (sevens 24) (refused 18 0) (sevens 12) (sevens 24)
-    ∷ join (d1Log ++ equalBadges) (34 ∷ 16 ∷ []) 0 (sevens 12) (sevens 24) (refused 18 0) (sevens 12) (sevens 24)
-    ∷ join (d1Log ++ equalBadges) (34 ∷ 16 ∷ []) 3 (sevens 12) (sevens 24) (refused 18 0) (sevens 12) (sevens 24)
+    ∷ join d1Log (34 ∷ []) 1 (room 12) (room 12) (refused 18 0) (room 12) (room 12)
+    ∷ join (emptyLog ++ emptyLog ++ emptyLog ++ emptyLog ++ emptyLog) (10 ∷ 10 ∷ 10 ∷ 10 ∷ 10 ∷ []) 1 (room 12) (room 60) (refused 18 0) (room 12) (room 60)
+    ∷ join d1Log (18446744073709551615 ∷ 35 ∷ []) 1 (room 12) (room 24) (refused 18 0) (room 12) (room 24)
+    ∷ join (d1Log ++ equalBadges) (34 ∷ 15 ∷ []) 1 (room 12) (room 24) (refused 18 0) (room 12) (room 24)
+    ∷ join (d1Log ++ equalBadges) (34 ∷ 16 ∷ []) 0 (room 12) (room 24) (refused 18 0) (room 12) (room 24)
+    ∷ join (d1Log ++ equalBadges) (34 ∷ 16 ∷ []) 3 (room 12) (room 24) (refused 18 0) (room 12) (room 24)
     -- 8: "the first n×T work words for each log, counted by 8 too"
-    ∷ join (d1Log ++ missing) (34 ∷ 28 ∷ []) 1 (sevens 11) (sevens 24) (refused 8 0) (sevens 11) (sevens 24)
-    ∷ join (d1Log ++ missing) (34 ∷ 28 ∷ []) 1 (sevens 12) (sevens 23) (refused 8 0) (sevens 12) (sevens 23)
+    ∷ join (d1Log ++ missing) (34 ∷ 28 ∷ []) 1 (less 12) (room 24) (refused 8 0) (less 12) (room 24)
+    ∷ join (d1Log ++ missing) (34 ∷ 28 ∷ []) 1 (room 12) (less 24) (refused 8 0) (room 12) (less 24)
     -- "Six. .. all cores are cores among those badges, others have core number 0": D1 without badge 2, and without badge 3
     ∷ core-numbers 4 3 d1Words without2 0 1 (sevens 4) (success 4) (1 ∷ 1 ∷ 0 ∷ 0 ∷ [])
     ∷ core-numbers 4 3 d1Words without2 0 2 (sevens 4) (success 4) (0 ∷ 0 ∷ 0 ∷ 0 ∷ [])
@@ -167,8 +167,8 @@ requested =
     ∷ core-numbers 4 3 d1Words (badges []) 2 1 (sevens 3) (refused 20 0) (sevens 3)
     ∷ report 4 3 d1Words (badges []) (leastOf 0 1 2) (sevens 3) (refused 20 0) (sevens 3)
     ∷ plan 4 3 d1Words (badges []) (badges (4 ∷ [])) 4 (sevens 3) (refused 20 0) (sevens 3)
-    ∷ core-numbers 4 3 (sevens 12) (badges []) 2 1 (sevens 3) (refused 11 0) (sevens 3)
-    ∷ report 4 3 (sevens 11) (badges []) (leastOf 0 1 2) (sevens 3) (refused 8 0) (sevens 3)
+    ∷ core-numbers 4 3 (room 12) (badges []) 2 1 (sevens 3) (refused 11 0) (sevens 3)
+    ∷ report 4 3 (less 12) (badges []) (leastOf 0 1 2) (sevens 3) (refused 8 0) (sevens 3)
     ∷ plan 4 0 [] (badges []) (badges (4 ∷ [])) 4 (sevens 3) (refused 10 0) (sevens 3)
     -- "21, the query has a badge outside it, between 13 and 14"
     ∷ plan 4 3 d1Words without3 (badges (3 ∷ [])) 1 (sevens 32) (refused 21 0) (sevens 32)
@@ -216,8 +216,8 @@ requested =
     ∷ trace 4 3 d1Words 4 0 (sevens 8) (refused 22 0) (sevens 8)
     ∷ trace 4 3 d1Words 3 3 (sevens 8) (refused 22 0) (sevens 8)
     ∷ trace 4 3 d1Words 4 3 (sevens 7) (refused 22 0) (sevens 7)
-    ∷ trace 4 3 (sevens 12) 4 3 (sevens 7) (refused 11 0) (sevens 7)
-    ∷ trace 4 3 (sevens 11) 4 3 (sevens 7) (refused 8 0) (sevens 7)
+    ∷ trace 4 3 (room 12) 4 3 (sevens 7) (refused 11 0) (sevens 7)
+    ∷ trace 4 3 (less 12) 4 3 (sevens 7) (refused 8 0) (sevens 7)
     ∷ trace 4 0 [] 4 3 (sevens 7) (refused 10 0) (sevens 7)
     -- 9 below 2n bytes
     ∷ trace 4 3 d1Words 3 2 (sevens 7) (refused 9 0) (sevens 7)

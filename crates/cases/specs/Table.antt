@@ -1,9 +1,9 @@
 -- The cases marked * in document 01's section "Day D1 and its neighbours", row by row in the paper's order, each under the sentence that it
 -- states. What a row says is in Rows.
 use mathlib.Core.List.{List, [], _∷_, _++_}
-use Prim.Native.Nat.{ℕ}
+use Prim.Native.Nat.{ℕ, _+_, _-_, _*_}
 use lib.ListN.{replicate}
-use Rattle.sets.specs.Words.{wordsOf}
+use Rattle.sets.specs.Words.{setWords, wordsOf}
 use Rattle.sets.specs.Sets.{full}
 use Rattle.records.specs.Outcomes.{Outcome, refused, success}
 use Rattle.records.specs.Verdicts.{Values}
@@ -16,6 +16,16 @@ use Rattle.cases.specs.Rows.{Row, read, tidy, write, core-numbers, repor
 -- lent memory of so many bytes or words, all 7
 unfoldable pub sevens : ℕ → List ℕ
 sevens m = replicate m 7
+
+-- lent words of so many sets, one word less, and some words more
+abbrev pub room : ℕ → List ℕ
+room sets = sevens (sets * setWords)
+
+abbrev pub less : ℕ → List ℕ
+less sets = sevens (sets * setWords - 1)
+
+abbrev pub more : ℕ → ℕ → List ℕ
+more sets words = sevens (sets * setWords + words)
 
 -- what read answers: n, T and the number of CT records as given
 abbrev pub accepted : ℕ → ℕ → ℕ → Outcome Values
@@ -60,14 +70,14 @@ equalBadges = BH 4 3 ++ CT 0 0 0 1 ++ ED 1
 unfoldable pub starred : List Row
 starred =
     -- "D1: n 4, T 3, contacts 0–1, 0–2 and 1–2 in ticks 0 to 1, and 2–3 in ticks 0 to 2."
-    read d1Log (sevens 12) (accepted 4 3 4) d1Words
+    read d1Log (room 12) (accepted 4 3 4) d1Words
     -- "* Its tidy log has 34 bytes and tidies to itself."
     ∷ write 4 3 d1Words (sevens 34) (success 34) d1Log
     ∷ length-of d1Log 34
-    ∷ tidy d1Log (sevens 12) (sevens 34) (success 34) d1Words d1Log
+    ∷ tidy d1Log (room 12) (sevens 34) (success 34) d1Words d1Log
     -- "With 0–1 given instead as last records 1–0 tick 1 and 0–1 tick 0 (40 bytes, count 5) it tidies to the same 34."
     ∷ length-of d1Variant 40
-    ∷ tidy d1Variant (sevens 12) (sevens 34) (success 34) d1Words d1Log
+    ∷ tidy d1Variant (room 12) (sevens 34) (success 34) d1Words d1Log
     -- "* Core numbers, span 0 to 1: 2 2 2 1."
     ∷ core-numbers 4 3 d1Words (full 4) 0 1 (sevens 4) (success 4) (2 ∷ 2 ∷ 2 ∷ 1 ∷ [])
     -- "* Span 0 to 2: 0 0 1 1."
@@ -94,17 +104,17 @@ starred =
     ∷ plan-sum 4 3 d1Words (full 4) (badges (0 ∷ 3 ∷ [])) 3 2
     ∷ plan 4 3 d1Words (full 4) (badges (0 ∷ 3 ∷ [])) 3 (sevens 58) (success 58) (PH 4 3 3 (badges (0 ∷ 3 ∷ [])) ++ PT 1 0 0 (badges (0 ∷ 1 ∷ 2 ∷ 3 ∷ [])) ++ PT 1 1 1 (badges (0 ∷ 1 ∷ 2 ∷ 3 ∷ [])) ++ PT 0 2 2 (badges (0 ∷ 1 ∷ 2 ∷ 3 ∷ [])) ++ ED 3)
     -- "* n 3, T 2, 0–1 in tick 0, 0–2 in tick 1: groups of order 1 at 0 to 0 {0,1} and 1 to 1 {0,2}, none at 0 to 1."
-    ∷ read changingLog (sevens 6) (accepted 3 2 2) changingWords
+    ∷ read changingLog (room 6) (accepted 3 2 2) changingWords
     ∷ report 3 2 changingWords (full 3) plain (sevens 36) (success 36) (RH 3 2 ++ GR 1 0 0 (badges (0 ∷ 1 ∷ [])) ++ GR 1 1 1 (badges (0 ∷ 2 ∷ [])) ++ ED 2)
     -- "* A log without CT: 10 bytes, a report of 10 bytes."
     ∷ length-of emptyLog 10
-    ∷ read emptyLog (sevens 12) (accepted 4 3 0) emptyWords
+    ∷ read emptyLog (room 12) (accepted 4 3 0) emptyWords
     ∷ report 4 3 emptyWords (full 4) plain (sevens 10) (success 10) (RH 4 3 ++ ED 0)
     ∷ length-of (RH 4 3 ++ ED 0) 10
     -- "* Empty file: 1 at offset 0."
-    ∷ read [] (sevens 12) (refused 1 0) (sevens 12)
-    ∷ tidy [] (sevens 12) (sevens 34) (refused 1 0) (sevens 12) (sevens 34)
+    ∷ read [] (room 12) (refused 1 0) (room 12)
+    ∷ tidy [] (room 12) (sevens 34) (refused 1 0) (room 12) (sevens 34)
     -- "* A first CT 0–0: 4 at offset 4."
-    ∷ read equalBadges (sevens 12) (refused 4 4) (sevens 12)
-    ∷ tidy equalBadges (sevens 12) (sevens 34) (refused 4 4) (sevens 12) (sevens 34)
+    ∷ read equalBadges (room 12) (refused 4 4) (room 12)
+    ∷ tidy equalBadges (room 12) (sevens 34) (refused 4 4) (room 12) (sevens 34)
     ∷ []

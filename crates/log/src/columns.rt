@@ -2,26 +2,26 @@
 ghost use mathlib.Core.Path.{_≡_};
 ghost use Prim.Native.Nat.{_-_, _≤_, _<_, min};
 ghost use lib.ListN.{length, replicate};
-ghost use Rattle.sets.specs.Members.{capacity, members};
-ghost use Rattle.sets.specs.Words.{wordBits};
+ghost use Rattle.sets.specs.Members.{capacity};
+ghost use Rattle.sets.specs.Words.{wordBits, setWords, inWord};
 ghost use Rattle.records.specs.Limits.{maxTicks};
 ghost use Rattle.log.specs.TickSets.{united, Columns};
 ghost use Rattle.log.specs.Writing.{Writable};
 use sets::BadgeSet;
 use sets::CAPACITY;
+use sets::WORD_BITS;
 use sets::set_at;
 
-// Adds the bits of a word to the column of each badge of a set.
-fn unite(columns: &mut [u64], badges: BadgeSet, bits: u64)
-    requires { ⌜ length (now columns) ≡ capacity ⌝ }
-    ensures { λ _. ⌜ now (columns .exit) ≡ united (now (columns .entry)) (members badges) bits ⌝ }
+// Adds bits to the column of each badge that a word has, as word i of a set.
+fn unite(columns: &mut [u64], word: u64, i: usize, bits: u64)
+    requires { ⌜ (i < setWords) × (length (now columns) ≡ capacity) ⌝ }
+    ensures { λ _. ⌜ now (columns .exit) ≡ united (now (columns .entry)) (inWord i word) bits ⌝ }
 {
-    let mut unseen = badges;
-    while !unseen.is_empty() {
-        let v = unseen.smallest();
+    let mut unseen = word;
+    while unseen != 0 {
+        let v = i * WORD_BITS + u64::trailing_zeros(unseen) as usize;
         columns[v] = columns[v] | bits;
-        let rest = unseen.rest();
-        unseen = rest;
+        unseen = unseen & (unseen - 1);
     }
 }
 
@@ -54,7 +54,7 @@ pub(crate) fn gather_columns(
     let smaller = BadgeSet::full(u + 1);
     let m = window(from, ticks);
     for t in 0..m {
-        let row = set_at(words, (from + t) * n + u);
-        unite(columns, row.difference(smaller), 1 << t);
+        let larger = set_at(words, (from + t) * n + u).difference(smaller);
+        unite(columns, larger.word(0), 0, 1 << t);
     }
 }

@@ -12,6 +12,7 @@ pub mod Pairwise
 pub mod Pigeonhole
 pub mod Blocks
 pub mod Words
+pub mod InWord
 pub mod WordByWord
 pub mod Places
 pub mod OneWord

@@ -25,6 +25,10 @@ unfoldable pub toWords : ℕ → ℕ → List ℕ
 toWords zero s = s ∷ []
 toWords (suc k) s = s % 2 ^ wordBits ∷ toWords k (s / 2 ^ wordBits)
 
+-- the set of the badges that a word has as word i of a set
+unfoldable pub inWord : ℕ → ℕ → ℕ
+inWord i w = w * 2 ^ (i * wordBits)
+
 -- how many words of a set come before its last, and how many it has
 abbrev pub lowerWords : ℕ
 lowerWords = 0

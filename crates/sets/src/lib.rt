@@ -5,7 +5,8 @@ ghost use mathlib.Core.Path.{_≡_};
 ghost use Prim.Native.Nat.{_-_, min};
 ghost use lib.Dec.{eqb};
 ghost use Rattle.sets.specs.Sets.{has, isSub, intersection, union, difference, symmetricDifference, only, full, size, smallest};
-ghost use Rattle.sets.specs.Words.{setAt, putSet};
+ghost use lib.ListN.{getD};
+ghost use Rattle.sets.specs.Words.{lowerWords, toWords, setAt, putSet};
 ghost use Rattle.sets.specs.Members.{members, capacity, insert, insertAt};
 pub use widening::widen;
 
@@ -40,6 +41,16 @@ impl BadgeSet {
         ensures { λ r. ⌜ r ≡ members self ⌝ }
     {
         self.bits
+    }
+
+    // Word i of those that hold the set, lower badges first; 0 where there is none.
+    pub fn word(self, i: usize) -> u64
+        ensures { λ r. ⌜ r ≡ getD (toWords lowerWords (members self)) i 0 ⌝ }
+    {
+        if i == 0 {
+            return self.bits;
+        }
+        0
     }
 
     // All badges below n; for n above 64, all 64.

@@ -1,11 +1,12 @@
 -- gather_columns meets its contract: before tick t of the loop the columns hold the ticks before t.
 use mathlib.Core.Path.{_≡_, ap, ap₂, _∙_}
-use Prim.Native.Nat.{_+_, _*_, _-_, _≤_, min}
+use Prim.Native.Nat.{ℕ, _+_, _*_, _-_, _≤_, min}
 use native.Mathlib.Omega.{arith}
+use lib.ListN.{getD}
 use borrow.Author.Needs.{needs}
 use Rattle.sets.specs.Sets.{difference, only, full}
 use Rattle.sets.specs.Members.{capacity, members}
-use Rattle.sets.specs.Words.{wordBits}
+use Rattle.sets.specs.Words.{wordBits, inWord, toWords, lowerWords}
 use Rattle.sets.proofs.Bits.{one-shl}
 use Rattle.days.specs.Days.{neighbours}
 use Rattle.days.proofs.Days.{tick-fits}
@@ -24,6 +25,11 @@ abbrev μ-loop : tie.MeasureT-loop
 here : (c : tie.In-loop Inv-loop μ-loop) →
     let a = c .before .before .before .before .before .args in (a .from + c .before .loop .t) * a .n + a .n ≤ a .ticks * a .n
 here c = tick-fits _ _ _ (omega arith)
+
+-- a set's word has all its badges
+all-words : (s : ℕ) → inWord 0 (getD (toWords lowerWords s) 0 0) ≡ s
+unfolding inWord toWords
+all-words s = omega arith
 
 add-full : tie.Need-add-full Inv-loop μ-loop
 add-full c = search needs
@@ -54,11 +60,14 @@ set-at-requires c κs = search needs
 difference-requires : tie.Need-difference-requires Inv-loop μ-loop
 difference-requires c κs = search needs
 
+word-requires : tie.Need-word-requires Inv-loop μ-loop
+word-requires c κs = search needs
+
 shl-unite : tie.Need-shl-unite Inv-loop μ-loop
 shl-unite c = search needs
 
 unite-requires : tie.Need-unite-requires Inv-loop μ-loop
-unite-requires c κs = c .before .before .before .before .loop .inv .2 .whole
+unite-requires c κs = (omega arith, c .before .before .before .before .before .loop .inv .2 .whole)
 
 add-t : tie.Need-add-t Inv-loop μ-loop
 add-t c = search needs
@@ -69,13 +78,14 @@ loop-less c = search needs
 loop-again : tie.Need-loop-again Inv-loop μ-loop
 unfolding neighbours only
 loop-again c =
-    let d = c .before in
-    let l = d .before .before .before .before .loop in
-    let a = d .before .before .before .before .before .before .before .before .args in
+    let w = c .before in
+    let d = w .before .before in
+    let l = d .before .before .before .loop in
+    let a = d .before .before .before .before .before .before .before .args in
     let row = neighbours (a .n) (a .words .now) (a .from + l .t) (a .u) in
     let e : c .unite .last .0 ≡ united (l .columns) (difference row (full (a .u + 1))) (only (l .t)) =
     c .unite .ensures
-    ∙ ap₂ (united (l .columns)) (d .difference .ensures ∙ ap₂ difference (d .before .before .set-at .ensures) (l .inv .1)) (one-shl (l .t) (omega arith)) in
+    ∙ ap₂ (united (l .columns)) (ap (inWord 0) (w .word .ensures) ∙ all-words _ ∙ d .difference .ensures ∙ ap₂ difference (d .before .set-at .ensures) (l .inv .1)) (one-shl (l .t) (omega arith)) in
     (search needs, l .inv .1, rw e (columns-more (a .n) (a .words .now) (a .u) (a .from) (l .t) (l .inv .2)))
 
 returns : tie.Need-returns Inv-loop μ-loop
@@ -99,6 +109,7 @@ gather-columns-spec =
     add-set-at-2
     set-at-requires
     difference-requires
+    word-requires
     shl-unite
     unite-requires
     add-t
