@@ -1,4 +1,8 @@
 -- Laws of the definitions in specs/, from the bottom up. Other crates cite TickRows.
 pub mod TickRows
 pub mod Changes
+pub mod Toggled
+pub mod Pairs
+pub mod Walk
+pub mod KnownRows
 pub mod Scan

@@ -1,176 +1,61 @@
--- What the three loops of the search for a pair that breaks the day keep, over the members of a row of changes, the badges of a tick and the ticks of a day.
-use mathlib.Core.Path.{_≡_, refl}
+-- Laws of the search through the ticks of a day: what changes from rows that are a tick's to those of the tick at hand tells whether it can be one of a day.
+use mathlib.Core.Path.{_≡_, sym, ap, _∙_}
 use mathlib.Core.Bool.{false}
 use mathlib.Core.List.{List}
-use mathlib.Core.Logic.{_⊎_, inl, inr, by-cases}
-use Prim.Native.Nat.{ℕ, _+_, _^_, _≤_, _<_}
-use native.Mathlib.Nat.{le-refl}
-use native.Mathlib.Decide.{ℕ-discrete, decLt}
+use Prim.Native.Nat.{ℕ, _^_, _≤_, _<_, zero-le}
 use native.Mathlib.Omega.{arith}
-use lib.ListN.{length, getD, set, List·getD-eq-default}
-use lib.Seq.{getD-set-same, getD-set-other}
-use Rattle.sets.specs.Sets.{In, Sub, difference, only, full}
-use Rattle.sets.specs.Members.{capacity}
+use lib.Bits.{xor-lt, xor-zero-l}
+use Rattle.sets.specs.Sets.{Sub, intersection, symmetricDifference, full}
+use Rattle.sets.specs.Words.{wordBits, setAt}
 use Rattle.sets.proofs.Bools.{to-false}
-use Rattle.sets.proofs.Sets.{not-in-none, in-difference, of-difference, in-only, of-only, in-lt, lt-of-members, sub-refl, none-sub, in-full, of-full}
-use Rattle.sets.proofs.Walks.{unseen-less}
-use Rattle.days.specs.Days.{IsTick, isDay}
+use Rattle.sets.proofs.Sets.{in-intersection, of-intersection-left, of-intersection-right, in-lt, sub-lt, sub-antisym, none-sub, ext, in-full, full-lt, symmetric-twice}
+use Rattle.days.specs.Days.{neighbours, IsTick, isDay}
 use Rattle.days.proofs.Scan.{day-of}
-use Rattle.checks.specs.Changes.{change}
-use Rattle.checks.proofs.Changes.{change-in}
+use Rattle.checks.specs.Changes.{changeAt, UnionOver}
 
--- the row of u is valid: its members are badges below n other than u, and the row of each has u
-pub record ValidRow (n : ℕ) (row : ℕ → ℕ) (u : ℕ) : Type 0 where
-  pub others : Sub (row u) (difference (full n) (only u))
-  pub mirrored : (v : ℕ) → In (row u) v → In (row v) u
+-- one tick whose words are not a tick's makes the test of the day fail
+pub day-broken : (n T : ℕ) (ws : List ℕ) (t : ℕ) → t < T → (IsTick n (neighbours n ws t) → ⊥) → isDay n T ws ≡ false
+day-broken n T ws t h f = to-false _ (λ e. f (day-of n T ws e .tick t h))
 
--- an empty row is
-pub row-none : (n : ℕ) (row : ℕ → ℕ) (u : ℕ) → row u ≡ 0 → ValidRow n row u
-row-none n row u e = record { others = rw e (none-sub _); mirrored = λ v i. absurd (not-in-none v (rw e at i)) }
+-- a row is the known one with what changes in it; where nothing does, it is the known one
+row-changed : (tick known : List ℕ) (u : ℕ) → symmetricDifference (changeAt tick known u) (setAt known u) ≡ setAt tick u
+unfolding changeAt
+row-changed tick known u = symmetric-twice (setAt tick u) (setAt known u)
 
--- the words are those of a tick exactly when all rows are valid
-pub tick-row : (n : ℕ) (row : ℕ → ℕ) (u : ℕ) → IsTick n row → u < n → ValidRow n row u
-tick-row n row u d l = record {
-  others = record { at = λ v i. in-difference (full n) (only u) v (in-full n v (small v i)) (λ j. let e : v ≡ u = of-only u v j in d .irreflexive u l (rw e at i)) };
-  mirrored = λ v i. d .symmetric u v l (small v i) i;
-}
-  where
-    small : (v : ℕ) → In (row u) v → v < n
-    small v i = in-lt n (row u) v (d .within u l) i
+pub row-same : (tick known : List ℕ) (u : ℕ) → changeAt tick known u ≡ 0 → setAt known u ≡ setAt tick u
+unfolding symmetricDifference
+row-same tick known u e = sym (xor-zero-l (setAt known u)) ∙ ap (λ (x : ℕ). symmetricDifference x (setAt known u)) (sym e) ∙ row-changed tick known u
 
-pub tick-done : (n : ℕ) (row : ℕ → ℕ) → ((u : ℕ) → u < n → ValidRow n row u) → IsTick n row
-tick-done n row p = record {
-  irreflexive = λ u l i. of-difference (full n) (only u) u (p u l .others .at u i) .1 (in-only u);
-  within = λ u l. lt-of-members n (row u) (λ v i. of-full n v (of-difference (full n) (only u) v (p u l .others .at v i) .0));
-  symmetric = λ u v l k i. p u l .mirrored v i;
-}
+-- what changes in a row of badges below n alone is below n; so where a word holds n badges, the lower word has all of it
+pub change-lower : (tick known : List ℕ) (u : ℕ) {n : ℕ} → n ≤ wordBits → setAt tick u < 2 ^ n → setAt known u < 2 ^ n
+    → intersection (changeAt tick known u) (full wordBits) ≡ changeAt tick known u
+unfolding changeAt symmetricDifference
+change-lower tick known u {n} few h k = ext _ _ (of-intersection-left _ _) (λ v i.
+    in-intersection _ _ v i (in-full wordBits v (omega (arith, in-lt n _ v (xor-lt n (setAt tick u) (setAt known u) h k) i))))
 
--- so one row of changes that is not valid makes the test of the day fail
-pub day-broken : (n T : ℕ) (ws : List ℕ) (t u : ℕ) → t < T → u < n → (ValidRow n (change n ws t) u → ⊥) → isDay n T ws ≡ false
-day-broken n T ws t u h l f = to-false _ (λ e.
-    let tick = day-of n T ws e .tick in
-    f (tick-row n (change n ws t) u (change-in n ws t (λ k m. tick k (omega arith)) (tick t h)) l))
+pub lower-lt : (s : ℕ) {t : ℕ} → t ≡ intersection s (full wordBits) → t < 2 ^ wordBits
+lower-lt s e = rw e (sub-lt wordBits _ (full wordBits) (record { at = of-intersection-right s (full wordBits) }) (full-lt wordBits))
 
--- The rows while pairs are taken out of them: each is a part of what it was, and a badge that the row of v has lost has v in its own row. `gone v w`
--- says what else is known of a badge w that the row of v has lost.
-pub record Left (n : ℕ) (row : ℕ → ℕ) (gone : ℕ → ℕ → Type 0) (rows : List ℕ) : Type 0 where
-  pub subset : (v : ℕ) → v < n → Sub (getD rows v 0) (row v)
-  pub lost : (v w : ℕ) → v < n → In (row v) w → In (getD rows v 0) w ⊎ (gone v w × In (row w) v)
+-- s has what changes from the rows known to those of the tick
+module _ (tick known : List ℕ) {n s : ℕ} (changed : UnionOver (changeAt tick known) 0 n s) (d : IsTick n (setAt known)) where
+  row-sub : (u : ℕ) → u < n → Sub (changeAt tick known u) s
+  row-sub u l = record { at = λ v i. changed .has u v zero-le l i }
 
--- before the turn of u only badges below u are lost
-abbrev pub LeftAt : ℕ → (ℕ → ℕ) → ℕ → List ℕ → Type 0
-LeftAt n row u rows = Left n row (λ v w. w < u) rows
+  -- where nothing changes, the rows are those known
+  pub rows-same : s ≡ 0 → (u : ℕ) → u < n → setAt known u ≡ setAt tick u
+  rows-same z u l = row-same tick known u (sub-antisym _ _ (rw (← z) (row-sub u l)) (none-sub _))
 
--- at the start nothing is lost
-pub left-none : (n : ℕ) (row : ℕ → ℕ) {rows : List ℕ} → ((u : ℕ) → u < n → getD rows u 0 ≡ row u) → LeftAt n row 0 rows
-left-none n row e = record { subset = λ v l. rw (e v l) (sub-refl (row v)); lost = λ v w l i. inl (rw (e v l) i) }
+  -- where badges below n change alone, the rows have such badges alone; and in a tick others do not change
+  pub rows-below : Sub s (full n) → (u : ℕ) → u < n → setAt tick u < 2 ^ n
+  unfolding symmetricDifference
+  rows-below h u l =
+      let c : changeAt tick known u < 2 ^ n = sub-lt n _ s (row-sub u l) (sub-lt n s (full n) h (full-lt n)) in
+      rw (← row-changed tick known u) (xor-lt n _ _ c (d .within u l))
 
--- what is known of the badges lost may be weakened
-left-same : {n : ℕ} {row : ℕ → ℕ} {p q : ℕ → ℕ → Type 0} {rows : List ℕ} → ((v w : ℕ) → p v w → q v w) → Left n row p rows → Left n row q rows
-left-same {n} {row} {p} {q} {rows} f h = record { subset = h .subset; lost = λ v w l i. go v w (h .lost v w l i) }
-  where
-    go : (v w : ℕ) → In (getD rows v 0) w ⊎ (p v w × In (row w) v) → In (getD rows v 0) w ⊎ (q v w × In (row w) v)
-    go v w (inl i) = inl i
-    go v w (inr i) = inr (f v w (i .0), i .1)
-
--- badge u is taken out of the row of v, where the row of u has v
-module _ (rows : List ℕ) (v u : ℕ) (m : In (getD rows v 0) u) where
-  abbrev less : List ℕ
-  less = set rows v (difference (getD rows v 0) (only u))
-
-  there : v < length rows
-  there = by-cases (decLt v (length rows)) (λ l. l) (λ f. absurd (not-in-none u (rw (List·getD-eq-default rows 0 {n = v} (omega arith)) at m)))
-
-  at-same : getD less v 0 ≡ difference (getD rows v 0) (only u)
-  at-same = getD-set-same rows v _ 0 there
-
-  of-less : (x y : ℕ) → In (getD less x 0) y → In (getD rows x 0) y
-  of-less x y i =
-      by-cases (ℕ-discrete x v)
-      (λ e. rw e (of-difference _ (only u) y (rw (e, at-same) at i) .0))
-      (λ f. rw (getD-set-other rows v x (difference (getD rows v 0) (only u)) 0 f) at i)
-
-  in-less : (x y : ℕ) → In (getD rows x 0) y → In (getD less x 0) y ⊎ ((x ≡ v) × (y ≡ u))
-  in-less x y i =
-      by-cases (ℕ-discrete x v)
-      (λ e. by-cases (ℕ-discrete y u) (λ g. inr (e, g)) (λ g. inl (rw (e, at-same) (in-difference _ (only u) y (rw e at i) (λ j. g (of-only u y j))))))
-      (λ f. inl (rw (getD-set-other rows v x (difference (getD rows v 0) (only u)) 0 f) i))
-
-  left-less : {n : ℕ} {row : ℕ → ℕ} {gone : ℕ → ℕ → Type 0} → gone v u → In (row u) v → Left n row gone rows → Left n row gone less
-  left-less {n} {row} {gone} g k h = record {
-    subset = λ x l. record { at = λ y i. h .subset x l .at y (of-less x y i) };
-    lost = λ x y l i. go x y (h .lost x y l i);
+  pub below-rows : IsTick n (setAt tick) → Sub s (full n)
+  unfolding changeAt symmetricDifference
+  below-rows g = record {
+    at = λ v i.
+        let x = changed .of v i in
+        in-full n v (in-lt n _ v (xor-lt n _ _ (g .within (x .0) (x .2)) (d .within (x .0) (x .2))) (x .3));
   }
-    where
-      new : (x y : ℕ) → In (getD less x 0) y ⊎ ((x ≡ v) × (y ≡ u)) → In (getD less x 0) y ⊎ (gone x y × In (row y) x)
-      new x y (inl i) = inl i
-      new x y (inr e) = inr (rw (e .0, e .1) (g, k))
-
-      go : (x y : ℕ) → In (getD rows x 0) y ⊎ (gone x y × In (row y) x) → In (getD less x 0) y ⊎ (gone x y × In (row y) x)
-      go x y (inl i) = new x y (in-less x y i)
-      go x y (inr i) = inr i
-
--- What holds on the walk over the row of u: its members are other badges below n, each is still unseen or has u in its row, and u is lost only from
--- rows of badges that are seen.
-pub record Walked (n : ℕ) (row : ℕ → ℕ) (u : ℕ) (rows : List ℕ) (unseen : ℕ) : Type 0 where
-  pub others : Sub (row u) (difference (full n) (only u))
-  pub subset : Sub unseen (row u)
-  pub seen : (v : ℕ) → In (row u) v → In unseen v ⊎ In (row v) u
-  pub left : Left n row (λ v w. (w ≤ u) × (w ≡ u → In unseen v → ⊥)) rows
-
--- at its start all that are left are unseen, where they are other badges below n
-pub walk-none : {n : ℕ} {row : ℕ → ℕ} {u : ℕ} {rows : List ℕ} (unseen : ℕ) → LeftAt n row u rows → u < n → unseen ≡ getD rows u 0
-    → Sub unseen (difference (full n) (only u)) → Walked n row u rows unseen
-walk-none {n} {row} {u} {rows} unseen h l e o = record {
-  others = record { at = λ v i. other v (h .lost u v l i) };
-  subset = rw e (h .subset u l);
-  seen = λ v i. known v (h .lost u v l i);
-  left = left-same (λ v w k. (omega arith, λ g. absurd (omega arith))) h;
-}
-  where
-    other : (v : ℕ) → In (getD rows u 0) v ⊎ ((v < u) × In (row v) u) → In (difference (full n) (only u)) v
-    other v (inl i) = o .at v (rw e i)
-    other v (inr i) = in-difference (full n) (only u) v (in-full n v (omega (arith, i .0))) (λ j. omega (arith, i .0, of-only u v j))
-
-    known : (v : ℕ) → In (getD rows u 0) v ⊎ ((v < u) × In (row v) u) → In unseen v ⊎ In (row v) u
-    known v (inl i) = inl (rw e i)
-    known v (inr i) = inr (i .1)
-
-module _ {n : ℕ} {row : ℕ → ℕ} {u : ℕ} {rows : List ℕ} {unseen : ℕ} (w : Walked n row u rows unseen) where
-  -- the unseen members fit a set, and each is in the row and below n
-  pub walk-lt : n ≤ capacity → row u < 2 ^ capacity
-  walk-lt few = lt-of-members capacity (row u) (λ v i. omega (arith, of-full n v (of-difference (full n) (only u) v (w .others .at v i) .0)))
-
-  pub walk-member : (v : ℕ) → In unseen v → In (row u) v × (v < n)
-  walk-member v i = let m = w .subset .at v i in (m, of-full n v (of-difference (full n) (only u) v (w .others .at v m) .0))
-
-  -- where one does not have u in what is left of its row, the row of u is not valid
-  pub walk-broken : (v : ℕ) → In unseen v → (In (getD rows v 0) u → ⊥) → ValidRow n row u → ⊥
-  walk-broken v i f p = go (w .left .lost v u (walk-member v i .1) (p .mirrored v (walk-member v i .0)))
-    where
-      go : In (getD rows v 0) u ⊎ (((u ≤ u) × (u ≡ u → In unseen v → ⊥)) × In (row u) v) → ⊥
-      go (inl j) = f j
-      go (inr j) = j .0 .1 refl i
-
-  -- one that has is taken out of the unseen, and u out of its row
-  pub walk-more : (v : ℕ) → In unseen v → In (getD rows v 0) u → Walked n row u (set rows v (difference (getD rows v 0) (only u))) (difference unseen (only v))
-  walk-more v i m = record {
-    others = w .others;
-    subset = unseen-less v (w .subset);
-    seen = λ x j. go x (ℕ-discrete x v) (w .seen x j);
-    left = left-less rows v u m (le-refl u, λ e j. of-difference unseen (only v) v j .1 (in-only v)) (walk-member v i .0)
-        (left-same (λ x y k. (k .0, λ e j. k .1 e (of-difference unseen (only v) x j .0))) (w .left));
-  }
-    where
-      go : (x : ℕ) → Dec (x ≡ v) → In unseen x ⊎ In (row x) u → In (difference unseen (only v)) x ⊎ In (row x) u
-      go x d (inr q) = inr q
-      go x (yes e) (inl j) = inr (rw e (w .left .subset v (walk-member v i .1) .at u m))
-      go x (no f) (inl j) = inl (in-difference unseen (only v) x j (λ k. f (of-only v x k)))
-
-  -- where none is unseen, the row of u is valid, and only badges up to u are lost
-  pub walk-done : unseen ≡ 0 → ValidRow n row u × LeftAt n row (u + 1) rows
-  walk-done e = (record { others = w .others; mirrored = λ v i. go v (w .seen v i) }, left-same (λ v x k. omega (arith, k .0)) (w .left))
-    where
-      go : (v : ℕ) → In unseen v ⊎ In (row v) u → In (row v) u
-      go v (inl j) = absurd (not-in-none v (rw e at j))
-      go v (inr p) = p

@@ -10,7 +10,7 @@ use lib.ListN.{length, getD, List·getD-eq-default}
 use Rattle.sets.specs.Sets.{In, union, full}
 use Rattle.sets.specs.Members.{capacity}
 use Rattle.sets.specs.Tables.{tabulate}
-use Rattle.sets.proofs.Sets.{not-in-none, in-union-left, in-union-right, of-union, in-full, of-full, sub-antisym, none-sub}
+use Rattle.sets.proofs.Sets.{not-in-none, in-union-left, in-union-right, of-union, in-full, of-full}
 use Rattle.sets.proofs.Tables.{tabulate-same, piecewise-in, piecewise-out}
 use Rattle.checks.specs.Arrays.{tickOver, unionOf}
 
@@ -48,7 +48,3 @@ union-of rows (suc m) v i = elim (of-union (unionOf m rows) (getD rows m 0) v i)
 
 pub unites : (rows : List ℕ) {s : ℕ} → s ≡ unionOf capacity rows → Unites rows s
 unites rows e = rw e (record { has = union-has rows capacity; of = union-of rows capacity })
-
--- where it has none, every row is empty
-pub united-none : {rows : List ℕ} {s : ℕ} → Unites rows s → s ≡ 0 → (u : ℕ) → u < capacity → getD rows u 0 ≡ 0
-united-none {rows} b e u l = sub-antisym _ _ (record { at = λ v i. absurd (not-in-none v (rw e at (b .has u v l i))) }) (none-sub _)

@@ -1,27 +1,14 @@
--- What changes from tick to tick: the check of words looks at these pairs alone.
-use mathlib.Core.Path.{_≡_}
+-- What changes from one tick to another. (Cited by private functions alone.)
 use mathlib.Core.List.{List}
-use Prim.Native.Nat.{ℕ, zero, suc, _<_}
-use lib.ListN.{length, getD}
-use Rattle.sets.specs.Sets.{symmetricDifference, full}
-use Rattle.sets.specs.Members.{capacity}
-use Rattle.sets.specs.Tables.{tabulate, piecewise}
-use Rattle.days.specs.Days.{neighbours}
+use Prim.Native.Nat.{ℕ, _≤_, _<_}
+use Rattle.sets.specs.Sets.{In, symmetricDifference}
+use Rattle.sets.specs.Words.{setAt}
 
--- the badges in contact with u in the tick before tick t; before tick 0 there is no contact
-unfoldable pub neighboursBefore : ℕ → List ℕ → ℕ → ℕ → ℕ
-neighboursBefore n ws zero u = 0
-neighboursBefore n ws (suc t) u = neighbours n ws t u
+-- the badges that are in the row of u in one of two ticks and not in the other
+unfoldable pub changeAt : List ℕ → List ℕ → ℕ → ℕ
+changeAt tick before u = symmetricDifference (setAt tick u) (setAt before u)
 
--- the badges in contact with u in tick t or in the tick before it, and not in both
-unfoldable pub change : ℕ → List ℕ → ℕ → ℕ → ℕ
-change n ws t u = symmetricDifference (neighbours n ws t u) (neighboursBefore n ws t u)
-
--- the rows with the differences of two ticks' words over them, badge by badge: as many as the tick has, then those that were there
-unfoldable pub differencesOver : List ℕ → List ℕ → List ℕ → List ℕ
-differencesOver tick before rows =
-    tabulate capacity (piecewise (full (length tick)) (λ u. symmetricDifference (getD tick u 0) (getD before u 0)) (λ u. getD rows u 0))
-
--- rows of which those of the badges below n are the changes of tick t
-pub record Changes (n : ℕ) (ws : List ℕ) (t : ℕ) (rows : List ℕ) : Type 0 where
-  pub at : (u : ℕ) → u < n → getD rows u 0 ≡ change n ws t u
+-- s has every badge that is in one of the rows of a range, its end left out, and no other
+pub record UnionOver (row : ℕ → ℕ) (start end s : ℕ) : Type 0 where
+  pub has : (u v : ℕ) → start ≤ u → u < end → In (row u) v → In s v
+  pub of : (v : ℕ) → In s v → (u : ℕ) × (start ≤ u) × (u < end) × In (row u) v

@@ -1,17 +1,26 @@
 // The check of words that every call on words begins with.
 ghost use mathlib.Core.Path.{_≡_};
-ghost use Prim.Native.Nat.{_*_, _≤_};
+ghost use Prim.Native.Nat.{_*_, _≤_, _<_};
 ghost use lib.ListN.{length};
+ghost use Rattle.sets.specs.Sets.{symmetricDifference, only};
+ghost use Rattle.sets.specs.Words.{setAt, putSet};
+ghost use Rattle.sets.specs.Members.{capacity};
 ghost use Rattle.records.specs.Limits.{maxBadges, wordsFor};
 ghost use Rattle.days.specs.Days.{isDay};
 ghost use Rattle.days.specs.Calls.{checkOf};
 ghost use Rattle.checks.specs.Answers.{checkedOutcome};
-use crate::comparing::put_changes;
-use crate::rows::united;
+use crate::bits::lower_word;
+use crate::bits::smallest_bit;
+use crate::bits::without_smallest;
+use crate::comparing::change_at;
+use crate::comparing::changes;
 use records::Refusal;
 use records::within_limits;
 use sets::BadgeSet;
+use sets::ROW_WORDS;
 use sets::SET_WORDS;
+use sets::put_set;
+use sets::set_at;
 
 // Whether words are those of a day of n badges and T ticks.
 pub enum Checked {
@@ -19,41 +28,52 @@ pub enum Checked {
     Refused(Refusal),
 }
 
-// Whether the words are a day: the search goes tick by tick and badge by badge, and stops at the first pair that breaks it. After a tick of a day
-// only a pair that changes can break the next, so it looks at the changes alone, and passes over a tick and a row without any. It looks at each
-// pair once: the walk over u's row takes u out of the rows of the others. A row's own bit and its bits from n up are tested at once, before its
-// set bits are walked for one that has no mirror.
+// Changes badge u in the row of v: puts it in where it is not there, and takes it out where it is.
+fn toggle(known: &mut [u64], v: usize, u: usize)
+    requires { ⌜ u < capacity ⌝ }
+    ensures { λ _. ⌜ now (known .exit) ≡ putSet (now (known .entry)) v (symmetricDifference (setAt (now (known .entry)) v) (only u)) ⌝ }
+{
+    let row = set_at(known, v).symmetric_difference(BadgeSet::EMPTY.with(u));
+    put_set(known, v, row);
+}
+
+// Whether the words are a day: the search goes tick by tick, badge by badge and bit by bit, and stops at the first pair that breaks it. The rows known are
+// at first those of the tick before, in which no pair breaks the day; so it looks at the changes alone, and passes over a tick and a row without any. A
+// badge from n up is found in all rows at once. It looks at each other pair once: where the row of u changes by a larger badge v, it changes u in the known
+// row of v, too. So a change by a smaller badge is one that the row of that badge does not have, and a change by u itself is the row's own bit.
 fn is_day(words: &[u64], n: usize, ticks: usize) -> bool
     requires { ⌜ (n ≤ maxBadges) × (wordsFor n ticks ≤ length (now words)) ⌝ }
     ensures { λ r. ⌜ r ≡ isDay n ticks (now (words .entry)) ⌝ }
 {
     let mut good = true;
     let badges = BadgeSet::full(n);
-    let mut changed = [0u64; 64];
+    let mut known = [0u64; ROW_WORDS];
     'scan: for t in 0..ticks {
-        put_changes(&mut changed, words, n, t);
-        if united(&changed).is_empty() {
+        let base = t * n * SET_WORDS;
+        let tick = &words[base..base + n * SET_WORDS];
+        let changed = changes(tick, &known, n);
+        if changed.is_empty() {
             continue;
         }
+        if !changed.is_subset(badges) {
+            good = false;
+            break 'scan;
+        }
         for u in 0..n {
-            let mut unseen = BadgeSet::from_word(changed[u]);
-            if unseen.is_empty() {
+            let mut unseen = lower_word(change_at(tick, &known, u));
+            if unseen == 0 {
                 continue;
             }
-            if !unseen.is_subset(badges.without(u)) {
-                good = false;
-                break 'scan;
-            }
-            while !unseen.is_empty() {
-                let v = unseen.smallest();
-                let other = BadgeSet::from_word(changed[v]);
-                if !other.has(u) {
+            while unseen != 0 {
+                let v = smallest_bit(unseen);
+                if v <= u {
                     good = false;
                     break 'scan;
                 }
-                changed[v] = other.without(u).to_word();
-                unseen = unseen.rest();
+                toggle(&mut known, v, u);
+                unseen = without_smallest(unseen);
             }
+            put_set(&mut known, u, set_at(tick, u));
         }
     }
     good

@@ -1,35 +1,68 @@
-// What changes from tick to tick: the pairs that are in contact in a tick or in the tick before it, and not in both.
+// What changes from one tick to another: the badges that are in a row of one of the two and not in the same row of the other.
 ghost use mathlib.Core.Path.{_≡_};
-ghost use Prim.Native.Nat.{_+_, _*_, _≤_};
-ghost use lib.ListN.{length};
-ghost use Rattle.records.specs.Limits.{maxBadges};
-ghost use Rattle.checks.specs.Changes.{differencesOver, Changes};
-use crate::rows::copy_tick;
+ghost use Prim.Native.Nat.{_+_, _*_, _≤_, _<_};
+ghost use Rattle.sets.specs.Words.{places};
+ghost use Rattle.sets.specs.Members.{members};
+ghost use Rattle.checks.specs.Changes.{changeAt, UnionOver};
 use sets::BadgeSet;
+use sets::SET_WORDS;
 
-// Puts the differences of the words of two ticks of n badges, badge by badge, into the first n rows, through a slice as `copy_tick` does.
-fn put_differences(rows: &mut [u64; 64], tick: &[u64], before: &[u64], n: usize)
-    requires { ⌜ (n ≤ maxBadges) × (length (now tick) ≡ n) × (length (now before) ≡ n) ⌝ }
-    ensures { λ _. ⌜ now (rows .exit) ≡ differencesOver (now (tick .entry)) (now (before .entry)) (now (rows .entry)) ⌝ }
+// What changes in the row of u.
+pub(crate) fn change_at(tick: &[u64], before: &[u64], u: usize) -> BadgeSet
+    requires { ⌜ (u < places (now tick)) × (u < places (now before)) ⌝ }
+    ensures { λ r. ⌜ members r ≡ changeAt (now (tick .entry)) (now (before .entry)) u ⌝ }
 {
-    let all = &mut rows[..];
-    for u in 0..n {
-        let current = BadgeSet::from_word(tick[u]);
-        let earlier = BadgeSet::from_word(before[u]);
-        all[u] = current.symmetric_difference(earlier).to_word();
-    }
+    BadgeSet::from_word(tick[u * SET_WORDS] ^ before[u * SET_WORDS])
 }
 
-// Puts the changes of a tick from the tick before it, from each badge's side, into the first n rows. In tick 0 these are its contacts.
-pub(crate) fn put_changes(rows: &mut [u64; 64], words: &[u64], n: usize, t: usize)
-    requires { ⌜ (n ≤ maxBadges) × (t * n + n ≤ length (now words)) ⌝ }
-    ensures { λ _. ⌜ Changes n (now (words .entry)) t (now (rows .exit)) ⌝ }
+// What changes in two rows, in four and in eight, from the row of u on.
+fn two_changes(tick: &[u64], before: &[u64], u: usize) -> BadgeSet
+    requires { ⌜ (u + 2 ≤ places (now tick)) × (u + 2 ≤ places (now before)) ⌝ }
+    ensures { λ r. ⌜ UnionOver (changeAt (now (tick .entry)) (now (before .entry))) u (u + 2) (members r) ⌝ }
 {
-    let base = t * n;
-    let tick = &words[base..base + n];
-    if t == 0 {
-        copy_tick(rows, tick);
-        return;
+    let first = change_at(tick, before, u);
+    first.union(change_at(tick, before, u + 1))
+}
+
+fn four_changes(tick: &[u64], before: &[u64], u: usize) -> BadgeSet
+    requires { ⌜ (u + 4 ≤ places (now tick)) × (u + 4 ≤ places (now before)) ⌝ }
+    ensures { λ r. ⌜ UnionOver (changeAt (now (tick .entry)) (now (before .entry))) u (u + 4) (members r) ⌝ }
+{
+    let first = two_changes(tick, before, u);
+    first.union(two_changes(tick, before, u + 2))
+}
+
+fn eight_changes(tick: &[u64], before: &[u64], u: usize) -> BadgeSet
+    requires { ⌜ (u + 8 ≤ places (now tick)) × (u + 8 ≤ places (now before)) ⌝ }
+    ensures { λ r. ⌜ UnionOver (changeAt (now (tick .entry)) (now (before .entry))) u (u + 8) (members r) ⌝ }
+{
+    let first = four_changes(tick, before, u);
+    first.union(four_changes(tick, before, u + 4))
+}
+
+// What changes in so many times eight rows, eight in a turn: where a set has several words, that takes fewer instructions.
+fn changes_by_eight(tick: &[u64], before: &[u64], eights: usize) -> BadgeSet
+    requires { ⌜ (8 * eights ≤ places (now tick)) × (8 * eights ≤ places (now before)) ⌝ }
+    ensures { λ r. ⌜ UnionOver (changeAt (now (tick .entry)) (now (before .entry))) 0 (8 * eights) (members r) ⌝ }
+{
+    let mut all = BadgeSet::EMPTY;
+    for i in 0..eights {
+        let next = all.union(eight_changes(tick, before, 8 * i));
+        all = next;
     }
-    put_differences(rows, tick, &words[base - n..base], n);
+    all
+}
+
+// Every badge that is in one of the first n rows of one tick, and not in the same row of the other.
+pub(crate) fn changes(tick: &[u64], before: &[u64], n: usize) -> BadgeSet
+    requires { ⌜ (n ≤ places (now tick)) × (n ≤ places (now before)) ⌝ }
+    ensures { λ r. ⌜ UnionOver (changeAt (now (tick .entry)) (now (before .entry))) 0 n (members r) ⌝ }
+{
+    let eights = n / 8;
+    let mut all = changes_by_eight(tick, before, eights);
+    for u in 8 * eights..n {
+        let next = all.union(change_at(tick, before, u));
+        all = next;
+    }
+    all
 }

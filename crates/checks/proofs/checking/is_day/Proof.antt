@@ -1,146 +1,213 @@
--- `checking::is_day` meets its contract. The ticks passed are those of a day; in the tick at hand the rows of changes passed are valid, and the
--- others have lost only badges before the one at hand; in the row at hand, whose members are other badges below n, all that are no longer unseen
--- have it in their rows. The walk ends as its unseen members get fewer.
+-- `checking::is_day` meets its contract. The ticks passed are those of a day, and the rows known are a tick's; in the tick at hand, those of the badges passed
+-- are the tick's own; on the walk over what changes in a row, they would be a tick's if that row had the changes that are seen. The walk ends as its unseen
+-- changes get fewer.
 use mathlib.Core.Bool.{true, false}
 use mathlib.Core.List.{List}
-use mathlib.Core.Path.{_≡_, refl, sym, ap, ap₂, _∙_}
-use Prim.Native.Nat.{ℕ, _-_, _≤_, _<_, min}
+use mathlib.Core.Path.{_≡_, refl, sym, ap, _∙_}
+use Prim.Native.Nat.{ℕ, _+_, _-_, _*_, _^_, _≤_, _<_, min}
 use native.Mathlib.Omega.{arith}
-use lib.ListN.{getD}
+use lib.ListN.{length}
 use borrow.Author.Needs.{needs}
 use borrow.Author.Tests.{not-true, not-false, eqb-true}
 use borrow.Author.Count.{below-none, below-more}
-use Rattle.sets.specs.Sets.{In, has, isSub, difference, only, full, size}
-use Rattle.sets.specs.Members.{capacity, members}
+use Rattle.sets.specs.Sets.{bit, In, isSub, intersection, symmetricDifference, full, only, difference, size, smallest}
+use Rattle.sets.specs.Words.{wordBits, setWords, setAt, putSet}
+use Rattle.sets.specs.Members.{capacity, rowWords, members}
 use Rattle.sets.proofs.Bools.{clash}
-use Rattle.sets.proofs.Sets.{in-test, out-test, is-sub-in, is-sub-of, none-sub, sub-trans}
+use Rattle.sets.proofs.Sets.{is-sub-in, is-sub-of, sub-refl, sub-lt}
 use Rattle.sets.proofs.Size.{size-without}
-use Rattle.sets.proofs.Walks.{smallest-unseen, none-unseen, rest-is}
+use Rattle.sets.proofs.Smallest.{smallest-member}
+use Rattle.sets.proofs.Walks.{unseen-less}
 use Rattle.days.specs.Days.{neighbours, IsTick, IsDay, isDay}
-use Rattle.checks.specs.Changes.{change}
-use Rattle.days.proofs.Days.{tick-fits}
-use Rattle.checks.proofs.Changes.{change-of}
+use Rattle.days.proofs.Days.{tick-fits, tick-same}
 use Rattle.days.proofs.Scan.{day-in}
-use Rattle.checks.proofs.TickRows.{unites, united-none}
-use Rattle.checks.proofs.Scan.{row-none, ValidRow, LeftAt, left-none, Walked, walk-none, walk-lt, walk-member, walk-broken, walk-more, walk-done, tick-done, day-broken}
+use Rattle.checks.specs.Changes.{changeAt}
+use Rattle.checks.proofs.Walk.{Walk, walk-none, walk-member, walk-broken, walk-more, walk-done}
+use Rattle.checks.proofs.KnownRows.{tickWords, tick-set, tick-none, Put, put-row}
+use Rattle.checks.proofs.Scan.{day-broken, row-same, change-lower, lower-lt, rows-same, rows-below, below-rows}
 use Rattle.checks.proofs.checking.is_day.Statement.{statement}
 use Rattle.checks.proofs.checking.is_day.Tie as tie
 
 abbrev Inv-loop2 : tie.InvT-loop2
-Inv-loop2 words n ticks good₀ badges changed₀ t u unseen₀ good changed unseen = (good ≡ true) × Walked n (change n words t) u changed (members unseen)
+Inv-loop2 words n ticks good₀ badges known₀ t base tick u unseen₀ good known unseen =
+    (good ≡ true) × (length known ≡ rowWords) × ((w : ℕ) → w < u → setAt known w ≡ setAt tick w)
+    × (unseen < 2 ^ wordBits) × Walk n u (setAt tick u) (setAt known) unseen
 
 abbrev μ-loop2 : tie.MeasureT-loop2
-μ-loop2 words n ticks good₀ badges changed₀ t u unseen₀ good changed unseen = size (members unseen)
+μ-loop2 words n ticks good₀ badges known₀ t base tick u unseen₀ good known unseen = size unseen
 
 abbrev Inv-loop : tie.InvT-loop
-Inv-loop words n ticks good₀ badges changed₀ t u₀ good changed u =
-    (good ≡ true) × ((k : ℕ) → k < u → ValidRow n (change n words t) k) × (u ≤ n) × LeftAt n (change n words t) u changed
+Inv-loop words n ticks good₀ badges known₀ t base tick u₀ good known u =
+    (good ≡ true) × (length known ≡ rowWords) × ((w : ℕ) → w < u → setAt known w ≡ setAt tick w) × (u ≤ n) × IsTick n (setAt known)
 
 abbrev μ-loop : tie.MeasureT-loop
-μ-loop words n ticks good₀ badges changed₀ t u₀ good changed u = n - u
+μ-loop words n ticks good₀ badges known₀ t base tick u₀ good known u = n - u
 
 abbrev Inv-scan : tie.InvT-scan
-Inv-scan words n ticks good₀ badges changed₀ t₀ good changed t = (good ≡ true) × ((k : ℕ) → k < t → IsTick n (neighbours n words k)) × (t ≤ ticks)
+Inv-scan words n ticks good₀ badges known₀ t₀ good known t =
+    (good ≡ true) × (length known ≡ rowWords) × ((k : ℕ) → k < t → IsTick n (neighbours n words k)) × (t ≤ ticks) × IsTick n (setAt known)
 
 abbrev μ-scan : tie.MeasureT-scan
-μ-scan words n ticks good₀ badges changed₀ t₀ good changed t = ticks - t
+μ-scan words n ticks good₀ badges known₀ t₀ good known t = ticks - t
 
--- A turn of the loop over a tick's badges: the words, n, the tick, the badge, and the changes in the row of each badge.
+-- The tick at hand: the words of the day, n, T, the tick, its words and the rows that are known at its start.
 abbrev Turn : Type 0
-Turn = tie.In-loop Inv-loop2 μ-loop2 Inv-loop μ-loop Inv-scan μ-scan
+Turn = tie.After-changes Inv-loop2 μ-loop2 Inv-loop μ-loop Inv-scan μ-scan
 
 abbrev Words : Turn → List ℕ
-Words r = r .before .before .before .before .before .before .before .before .before .before .before .before .args .words .now
+Words r = r .before .before .before .before .before .before .before .args .words .now
 
 abbrev N : Turn → ℕ
-N r = r .before .before .before .before .before .before .before .before .before .before .before .before .args .n
+N r = r .before .before .before .before .before .before .before .args .n
 
-abbrev Tick : Turn → ℕ
-Tick r = r .before .before .before .before .before .before .before .before .before .scan .t
+abbrev Ticks : Turn → ℕ
+Ticks r = r .before .before .before .before .before .before .before .args .ticks
 
-abbrev Badge : Turn → ℕ
-Badge r = r .before .loop .u
+abbrev Time : Turn → ℕ
+Time r = r .before .before .before .before .scan .t
 
-abbrev Rows : Turn → ℕ → ℕ
-Rows r = change (N r) (Words r) (Tick r)
+abbrev Tick : Turn → List ℕ
+Tick r = tickWords (N r) (Words r) (Time r)
 
--- A turn of the walk over a row: the turn of the badge, what holds on the walk, its members unseen and the one at hand.
+abbrev Known : Turn → List ℕ
+Known r = r .before .before .before .before .scan .known
+
+-- there are no more badges than a set can hold
+few : (r : Turn) → N r ≤ capacity
+few r = r .before .before .before .before .before .before .before .pre .0
+
+-- its words are among those of the day
+fits : (i : tie.In-scan Inv-loop2 μ-loop2 Inv-loop μ-loop Inv-scan μ-scan) →
+    let a = i .before .before .before .before .args in
+    i .before .scan .t * a .n * setWords + a .n * setWords ≤ length (a .words .now)
+fits i = let a = i .before .before .before .before .args in omega (arith, tick-fits (i .before .scan .t) (a .ticks) (a .n) (i .scan-test .taken))
+
+-- its rows are a tick's in its own words exactly when they are in the day's
+in-day : (r : Turn) → IsTick (N r) (setAt (Tick r)) → IsTick (N r) (neighbours (N r) (Words r) (Time r))
+in-day r d = tick-same (N r) _ _ (λ u l. tick-set (N r) (Words r) (Time r) u l) d
+
+of-day : (r : Turn) → IsTick (N r) (neighbours (N r) (Words r) (Time r)) → IsTick (N r) (setAt (Tick r))
+of-day r d = tick-same (N r) _ _ (λ u l. sym (tick-set (N r) (Words r) (Time r) u l)) d
+
+-- where they are not, the words are not a day
+broken : (r : Turn) → (IsTick (N r) (setAt (Tick r)) → ⊥) → false ≡ isDay (N r) (Ticks r) (Words r)
+broken r f = sym (day-broken (N r) (Ticks r) (Words r) (Time r) (r .before .before .before .scan-test .taken) (λ d. f (of-day r d)))
+
+-- what the program tests of what changes in it: whether it is by badges below n alone
+tested : (c : tie.After-is-subset Inv-loop2 μ-loop2 Inv-loop μ-loop Inv-scan μ-scan) →
+    let r = c .before .before .before in c .is-subset .result ≡ isSub (members (r .changes .result)) (full (N r))
+tested c =
+    let r = c .before .before .before in
+    let e : min (N r) capacity ≡ N r = omega arith in
+    c .is-subset .ensures ∙ ap (isSub (members (r .changes .result))) (r .before .before .before .before .before .full .ensures ∙ ap full e)
+
+-- A turn of the loop over its badges: the tick, the badge and the rows that are known.
+abbrev Row : Type 0
+Row = tie.In-loop Inv-loop2 μ-loop2 Inv-loop μ-loop Inv-scan μ-scan
+
+abbrev At : Row → Turn
+At l = l .before .before .before .before .before .before
+
+abbrev Badge : Row → ℕ
+Badge l = l .before .loop .u
+
+abbrev Rows : Row → List ℕ
+Rows l = l .before .loop .known
+
+-- the badge's row has badges below n alone
+row-below : (l : Row) → setAt (Tick (At l)) (Badge l) < 2 ^ N (At l)
+row-below l =
+    let r = At l in
+    rows-below (Tick r) (Known r) (r .changes .ensures) (r .before .before .before .before .scan .inv .4)
+    (is-sub-of _ _ (sym (tested (l .before .before .before)) ∙ not-false _ (l .before .before .if2 .left))) (Badge l) (l .loop-test .taken)
+
+-- what is walked over is all that changes in it, since a word holds n badges
+to-walk : (c : tie.After-lower-word Inv-loop2 μ-loop2 Inv-loop μ-loop Inv-scan μ-scan) →
+    let l = c .before .before .before in c .lower-word .result ≡ changeAt (Tick (At l)) (Rows l) (Badge l)
+to-walk c =
+    let l = c .before .before .before in
+    c .lower-word .ensures ∙ ap (λ (x : ℕ). intersection x (full wordBits)) (c .before .change-at .ensures)
+    ∙ change-lower (Tick (At l)) (Rows l) (Badge l) (few (At l)) (row-below l) (l .before .loop .inv .4 .within (Badge l) (l .loop-test .taken))
+
+-- A turn of the walk: the turn of the row, the rows that are known, the changes unseen and the badge at hand.
 abbrev Step : Type 0
-Step = tie.After-smallest Inv-loop2 μ-loop2 Inv-loop μ-loop Inv-scan μ-scan
+Step = tie.After-smallest-bit Inv-loop2 μ-loop2 Inv-loop μ-loop Inv-scan μ-scan
 
-abbrev Row : Step → Turn
-Row i = i .before .before .before .before .before .before .before .before .before .before
-
-abbrev Unseen : Step → ℕ
-Unseen i = members (i .before .before .before .loop2 .unseen)
-
-abbrev Other : Step → ℕ
-Other i = i .smallest .result
+abbrev Of : Step → Row
+Of i = i .before .before .before .before .before .before .before
 
 abbrev Left : Step → List ℕ
-Left i = i .before .before .before .loop2 .changed
+Left i = i .before .before .loop2 .known
 
-walk : (i : Step) → Walked (N (Row i)) (Rows (Row i)) (Badge (Row i)) (Left i) (Unseen i)
-walk i = i .before .before .before .loop2 .inv .1
+abbrev Unseen : Step → ℕ
+Unseen i = i .before .before .loop2 .unseen
 
--- where the row of a badge is not valid, the words are not a day
-broken : (r : Turn) → (ValidRow (N r) (Rows r) (Badge r) → ⊥) →
-    false ≡ isDay (N r) (r .before .before .before .before .before .before .before .before .before .before .before .before .args .ticks) (Words r)
-broken r f = sym (day-broken (N r) _ (Words r) (Tick r) (Badge r) (r .before .before .before .before .before .before .before .before .scan-test .taken) (r .loop-test .taken) f)
+abbrev Other : Step → ℕ
+Other i = i .smallest-bit .result
 
--- what the program tests of what is left of the row
-tested : (c : tie.After-is-subset Inv-loop2 μ-loop2 Inv-loop μ-loop Inv-scan μ-scan) →
-    let r = c .before .before .before .before .before in
-    c .is-subset .result ≡ isSub (getD (r .before .loop .changed) (Badge r) 0) (difference (full (N r)) (only (Badge r)))
-tested c =
-    let r = c .before .before .before .before .before in
-    let e : min (N r) capacity ≡ N r = omega arith in
-    let all = r .before .before .before .before .before .before .before .before .before .before .full .ensures ∙ ap full e in
-    c .is-subset .ensures ∙ ap₂ isSub (c .before .before .before .before .from-word .ensures)
-    (c .before .without .ensures ∙ ap (λ (x : ℕ). difference x (only (Badge r))) all)
+walk : (i : Step) → let l = Of i in Walk (N (At l)) (Badge l) (setAt (Tick (At l)) (Badge l)) (setAt (Left i)) (Unseen i)
+walk i = i .before .before .loop2 .inv .4
 
--- the badge at hand is one of the unseen, so there is a row for it
-unseen-in : (i : Step) → In (Unseen i) (Other i)
-unseen-in i =
-    smallest-unseen (walk i .subset) (walk-lt (walk i) (omega arith)) (i .before .before .is-empty3 .ensures) (i .before .if4 .taken) (i .smallest .ensures) .0
+-- the badge at hand is one of the unseen, and below n
+smallest-in : (s : ℕ) {v : ℕ} → s < 2 ^ wordBits → (s ≡ 0 → ⊥) → v ≡ smallest wordBits s → In s v
+smallest-in s l f e = rw e (smallest-member wordBits s l f .0)
 
-other-small : (i : Step) → Other i < capacity
-other-small i = omega (arith, walk-member (walk i) (Other i) (unseen-in i) .1)
+other-unseen : (i : Step) → In (Unseen i) (Other i)
+other-unseen i = smallest-in (Unseen i) (i .before .before .loop2 .inv .3) (i .before .loop2-test .taken) (i .smallest-bit .ensures)
 
--- what the program tests of it: whether what is left of its row has the badge whose row is walked
-mirror : (c : tie.After-has Inv-loop2 μ-loop2 Inv-loop μ-loop Inv-scan μ-scan) →
-    let i = c .before .before in c .has .result ≡ has (getD (Left i) (Other i) 0) (Badge (Row i))
-mirror c =
-    let i = c .before .before in
-    c .has .ensures ∙ ap (λ (x : ℕ). has x (Badge (Row i))) (c .before .from-word2 .ensures)
+other-below : (i : Step) → Other i < N (At (Of i))
+other-below i = walk-member (walk i) (Of i .loop-test .taken) (Other i) (other-unseen i)
 
--- what is stored is what was left of its row without the badge whose row is walked
-stored : (c : tie.After-to-word Inv-loop2 μ-loop2 Inv-loop μ-loop Inv-scan μ-scan) →
-    let i = c .before .before .before .before .before in c .to-word .result ≡ difference (getD (Left i) (Other i) 0) (only (Badge (Row i)))
-stored c =
-    let i = c .before .before .before .before .before in
-    c .to-word .ensures ∙ c .before .without2 .ensures ∙ ap (λ (x : ℕ). difference x (only (Badge (Row i)))) (c .before .before .before .before .from-word2 .ensures)
-
--- the set that is left has lost the badge at hand
-stepped : (c : tie.After-rest Inv-loop2 μ-loop2 Inv-loop μ-loop Inv-scan μ-scan) →
-    let i = c .before .before .before .before .before .before in members (c .rest .result) ≡ difference (Unseen i) (only (Other i))
+-- the changes that are left have lost it
+stepped : (c : tie.After-without-smallest Inv-loop2 μ-loop2 Inv-loop μ-loop Inv-scan μ-scan) →
+    let i = c .before .before .before .before .before in c .without-smallest .result ≡ difference (Unseen i) (only (Other i))
 stepped c =
-    let i = c .before .before .before .before .before .before in
-    rest-is capacity (Unseen i) (i .smallest .ensures) (c .rest .ensures)
+    let i = c .before .before .before .before .before in
+    c .without-smallest .ensures ∙ ap (λ (x : ℕ). difference (Unseen i) (only x)) (sym (i .smallest-bit .ensures))
+
+-- the badge whose row is walked is changed in the row of the badge at hand
+changed : (c : tie.After-toggle Inv-loop2 μ-loop2 Inv-loop μ-loop Inv-scan μ-scan) →
+    let i = c .before .before .before in
+    Put (Left i) (Other i) (symmetricDifference (setAt (Left i) (Other i)) (only (Badge (Of i)))) (c .toggle .last .0)
+changed c =
+    let i = c .before .before .before in
+    put-row (Left i) (Other i) _ (omega (arith, other-below i, few (At (Of i)), i .before .before .loop2 .inv .1)) (c .toggle .ensures)
 
 full-requires : tie.Need-full-requires Inv-loop2 μ-loop2 Inv-loop μ-loop Inv-scan μ-scan
 full-requires c κs = search needs
 
 scan-holds : tie.Need-scan-holds Inv-loop2 μ-loop2 Inv-loop μ-loop Inv-scan μ-scan
-scan-holds c = (refl, below-none _, search needs)
+scan-holds c = (search needs, search needs, below-none _, search needs, tick-none _ capacity)
 
-put-changes-requires : tie.Need-put-changes-requires Inv-loop2 μ-loop2 Inv-loop μ-loop Inv-scan μ-scan
-put-changes-requires c κs =
-    let a = c .before .before .before .before .before .args in
-    (search needs, omega (arith, tick-fits (c .before .before .scan .t) (a .ticks) (a .n) (c .before .scan-test .taken)))
+mul-base : tie.Need-mul-base Inv-loop2 μ-loop2 Inv-loop μ-loop Inv-scan μ-scan
+mul-base c = omega (arith, fits c)
 
-united-requires : tie.Need-united-requires Inv-loop2 μ-loop2 Inv-loop μ-loop Inv-scan μ-scan
-united-requires c κs = search needs
+mul-base-2 : tie.Need-mul-base-2 Inv-loop2 μ-loop2 Inv-loop μ-loop Inv-scan μ-scan
+mul-base-2 c = omega (arith, fits c)
+
+mul-tick : tie.Need-mul-tick Inv-loop2 μ-loop2 Inv-loop μ-loop Inv-scan μ-scan
+mul-tick c = search needs
+
+add-tick : tie.Need-add-tick Inv-loop2 μ-loop2 Inv-loop μ-loop Inv-scan μ-scan
+add-tick c = omega (arith, fits c)
+
+mul-tick-2 : tie.Need-mul-tick-2 Inv-loop2 μ-loop2 Inv-loop μ-loop Inv-scan μ-scan
+mul-tick-2 c = omega (arith, fits c)
+
+sub-tick : tie.Need-sub-tick Inv-loop2 μ-loop2 Inv-loop μ-loop Inv-scan μ-scan
+sub-tick c = search needs
+
+part-tick-start : tie.Need-part-tick-start Inv-loop2 μ-loop2 Inv-loop μ-loop Inv-scan μ-scan
+part-tick-start c = search needs
+
+part-tick-end : tie.Need-part-tick-end Inv-loop2 μ-loop2 Inv-loop μ-loop Inv-scan μ-scan
+part-tick-end c = omega (arith, fits c)
+
+slice-aggregate-changes : tie.Need-slice-aggregate-changes Inv-loop2 μ-loop2 Inv-loop μ-loop Inv-scan μ-scan
+slice-aggregate-changes c = search needs
+
+changes-requires : tie.Need-changes-requires Inv-loop2 μ-loop2 Inv-loop μ-loop Inv-scan μ-scan
+changes-requires c κs = search needs
 
 is-empty-requires : tie.Need-is-empty-requires Inv-loop2 μ-loop2 Inv-loop μ-loop Inv-scan μ-scan
 is-empty-requires c κs = search needs
@@ -153,27 +220,25 @@ scan-less c = search needs
 
 scan-again : tie.Need-scan-again Inv-loop2 μ-loop2 Inv-loop μ-loop Inv-scan μ-scan
 scan-again c =
-    let w = c .before .before in
-    let p = w .before .before in
-    let day = p .before .before .before .scan .inv .1 in
+    let r = c .before .before in
+    let i = r .before .before .before .before .scan .inv in
     let e = eqb-true _ _ (sym (c .before .is-empty .ensures) ∙ c .if1 .taken) in
-    let same = p .put-changes .ensures .at in
-    (search needs, below-more _ _ day (change-of _ _ _ day (tick-done _ _ (λ u l. row-none _ _ _ (sym (same u l) ∙ united-none (unites _ (w .united .ensures)) e u (omega arith))))), search needs)
+    (search needs, search needs, below-more _ _ (i .2) (in-day r (tick-same (N r) _ _ (rows-same (Tick r) (Known r) (r .changes .ensures) (i .4) e) (i .4))), search needs, i .4)
+
+is-subset-requires : tie.Need-is-subset-requires Inv-loop2 μ-loop2 Inv-loop μ-loop Inv-scan μ-scan
+is-subset-requires c κs = search needs
 
 loop-holds : tie.Need-loop-holds Inv-loop2 μ-loop2 Inv-loop μ-loop Inv-scan μ-scan
-loop-holds c = (search needs, below-none _, search needs, left-none _ _ (c .before .before .before .before .put-changes .ensures .at))
+loop-holds c = search needs
 
-mul-from-word : tie.Need-mul-from-word Inv-loop2 μ-loop2 Inv-loop μ-loop Inv-scan μ-scan
-mul-from-word c = search needs
+slice-aggregate-change-at : tie.Need-slice-aggregate-change-at Inv-loop2 μ-loop2 Inv-loop μ-loop Inv-scan μ-scan
+slice-aggregate-change-at c = search needs
 
-array-read-from-word : tie.Need-array-read-from-word Inv-loop2 μ-loop2 Inv-loop μ-loop Inv-scan μ-scan
-array-read-from-word c = omega arith
+change-at-requires : tie.Need-change-at-requires Inv-loop2 μ-loop2 Inv-loop μ-loop Inv-scan μ-scan
+change-at-requires c κs = search needs
 
-from-word-requires : tie.Need-from-word-requires Inv-loop2 μ-loop2 Inv-loop μ-loop Inv-scan μ-scan
-from-word-requires c κs = search needs
-
-is-empty-requires-2 : tie.Need-is-empty-requires-2 Inv-loop2 μ-loop2 Inv-loop μ-loop Inv-scan μ-scan
-is-empty-requires-2 c κs = search needs
+lower-word-requires : tie.Need-lower-word-requires Inv-loop2 μ-loop2 Inv-loop μ-loop Inv-scan μ-scan
+lower-word-requires c κs = search needs
 
 add-u : tie.Need-add-u Inv-loop2 μ-loop2 Inv-loop μ-loop Inv-scan μ-scan
 add-u c = search needs
@@ -183,66 +248,56 @@ loop-less c = search needs
 
 loop-again : tie.Need-loop-again Inv-loop2 μ-loop2 Inv-loop μ-loop Inv-scan μ-scan
 loop-again c =
-    let r = c .before .before .before in
-    let e = eqb-true _ _ (sym (c .before .is-empty2 .ensures) ∙ c .if2 .taken) in
-    let d = walk-done (walk-none 0 (r .before .loop .inv .3) (r .loop-test .taken) (sym e ∙ c .before .before .from-word .ensures) (none-sub _)) refl in
-    (search needs, below-more _ _ (r .before .loop .inv .1) (d .0), search needs, d .1)
-
-without-requires : tie.Need-without-requires Inv-loop2 μ-loop2 Inv-loop μ-loop Inv-scan μ-scan
-without-requires c κs = search needs
-
-is-subset-requires : tie.Need-is-subset-requires Inv-loop2 μ-loop2 Inv-loop μ-loop Inv-scan μ-scan
-is-subset-requires c κs = search needs
+    let w = c .before in
+    let l = w .before .before .before in
+    let v = l .before .loop .inv in
+    (search needs, search needs, below-more _ _ (v .2) (row-same (Tick (At l)) (Rows l) (Badge l) (sym (to-walk w) ∙ c .if3 .taken)), search needs, v .4)
 
 loop2-holds : tie.Need-loop2-holds Inv-loop2 μ-loop2 Inv-loop μ-loop Inv-scan μ-scan
+unfolding changeAt
 loop2-holds c =
-    let w = c .before .before .before .before .before in
-    let r = w .before in
-    let others = is-sub-of _ _ (sym (tested (c .before)) ∙ not-false _ (c .if3 .left)) in
-    (search needs, walk-none _ (r .before .loop .inv .3) (r .loop-test .taken) (w .from-word .ensures) (rw (w .from-word .ensures) others))
+    let w = c .before in
+    let l = w .before .before .before in
+    let v = l .before .loop .inv in
+    (search needs, search needs, v .2, lower-lt _ (w .lower-word .ensures), walk-none (v .4) (l .loop-test .taken) (row-below l) (to-walk w))
 
-is-empty-requires-3 : tie.Need-is-empty-requires-3 Inv-loop2 μ-loop2 Inv-loop μ-loop Inv-scan μ-scan
-is-empty-requires-3 c κs = search needs
+smallest-bit-requires : tie.Need-smallest-bit-requires Inv-loop2 μ-loop2 Inv-loop μ-loop Inv-scan μ-scan
+smallest-bit-requires c κs = search needs
 
-smallest-requires : tie.Need-smallest-requires Inv-loop2 μ-loop2 Inv-loop μ-loop Inv-scan μ-scan
-smallest-requires c κs = search needs
+slice-aggregate-toggle : tie.Need-slice-aggregate-toggle Inv-loop2 μ-loop2 Inv-loop μ-loop Inv-scan μ-scan
+slice-aggregate-toggle c = search needs
 
-mul-from-word-2 : tie.Need-mul-from-word-2 Inv-loop2 μ-loop2 Inv-loop μ-loop Inv-scan μ-scan
-mul-from-word-2 c = omega (arith, other-small c)
+toggle-requires : tie.Need-toggle-requires Inv-loop2 μ-loop2 Inv-loop μ-loop Inv-scan μ-scan
+toggle-requires c κs = search needs
 
-array-read-from-word-2 : tie.Need-array-read-from-word-2 Inv-loop2 μ-loop2 Inv-loop μ-loop Inv-scan μ-scan
-array-read-from-word-2 c = omega (arith, other-small c)
-
-from-word-requires-2 : tie.Need-from-word-requires-2 Inv-loop2 μ-loop2 Inv-loop μ-loop Inv-scan μ-scan
-from-word-requires-2 c κs = search needs
-
-has-requires : tie.Need-has-requires Inv-loop2 μ-loop2 Inv-loop μ-loop Inv-scan μ-scan
-has-requires c κs = search needs
-
-without-requires-2 : tie.Need-without-requires-2 Inv-loop2 μ-loop2 Inv-loop μ-loop Inv-scan μ-scan
-without-requires-2 c κs = search needs
-
-to-word-requires : tie.Need-to-word-requires Inv-loop2 μ-loop2 Inv-loop μ-loop Inv-scan μ-scan
-to-word-requires c κs = search needs
-
-mul-changed : tie.Need-mul-changed Inv-loop2 μ-loop2 Inv-loop μ-loop Inv-scan μ-scan
-mul-changed c = omega (arith, other-small (c .before .before .before .before .before))
-
-array-write-changed : tie.Need-array-write-changed Inv-loop2 μ-loop2 Inv-loop μ-loop Inv-scan μ-scan
-array-write-changed c = omega (arith, other-small (c .before .before .before .before .before))
-
-rest-requires : tie.Need-rest-requires Inv-loop2 μ-loop2 Inv-loop μ-loop Inv-scan μ-scan
-rest-requires c κs = search needs
+without-smallest-requires : tie.Need-without-smallest-requires Inv-loop2 μ-loop2 Inv-loop μ-loop Inv-scan μ-scan
+without-smallest-requires c κs = search needs
 
 loop2-less : tie.Need-loop2-less Inv-loop2 μ-loop2 Inv-loop μ-loop Inv-scan μ-scan
-loop2-less c = let i = c .before .before .before .before .before .before in rw (stepped c) (size-without (Unseen i) (Other i) (unseen-in i))
+loop2-less c = let i = c .before .before .before .before .before in rw (stepped c) (size-without (Unseen i) (Other i) (other-unseen i))
 
 loop2-again : tie.Need-loop2-again Inv-loop2 μ-loop2 Inv-loop μ-loop Inv-scan μ-scan
 loop2-again c =
-    let w = c .before in
-    let i = w .before .before .before .before .before in
-    let mirrored = in-test _ (Badge (Row i)) (sym (mirror (w .before .before .before)) ∙ not-false _ (w .before .before .if5 .left)) in
-    (search needs, rw (stepped c, stored w) (walk-more (walk i) (Other i) (unseen-in i) mirrored))
+    let p = changed (c .before .before) in
+    let i = c .before .before .before .before .before in
+    let v = i .before .before .loop2 .inv in
+    let larger = c .before .before .before .before .if4 .left in
+    let rest = sub-lt wordBits _ (Unseen i) (unseen-less (Other i) (sub-refl (Unseen i))) (v .3) in (
+      search needs,
+      p .size ∙ v .1,
+      (λ w l. p .others w (λ e. omega arith) ∙ v .2 w l),
+      rw (stepped c) rest,
+      rw (stepped c) (walk-more (walk i) (Of i .loop-test .taken) (Other i) (other-unseen i) (omega (arith, larger)) (p .there) (p .others)),
+    )
+
+slice-aggregate-put-set : tie.Need-slice-aggregate-put-set Inv-loop2 μ-loop2 Inv-loop μ-loop Inv-scan μ-scan
+slice-aggregate-put-set c = search needs
+
+set-at-requires : tie.Need-set-at-requires Inv-loop2 μ-loop2 Inv-loop μ-loop Inv-scan μ-scan
+set-at-requires c κs = search needs
+
+put-set-requires : tie.Need-put-set-requires Inv-loop2 μ-loop2 Inv-loop μ-loop Inv-scan μ-scan
+put-set-requires c κs = search needs
 
 add-u-2 : tie.Need-add-u-2 Inv-loop2 μ-loop2 Inv-loop μ-loop Inv-scan μ-scan
 add-u-2 c = search needs
@@ -252,10 +307,12 @@ loop-less-2 c = search needs
 
 loop-again-2 : tie.Need-loop-again-2 Inv-loop2 μ-loop2 Inv-loop μ-loop Inv-scan μ-scan
 loop-again-2 c =
-    let l = c .before .before in
-    let r = l .before .before .before .before .before .before .before in
-    let d = walk-done (l .loop2 .inv .1) (none-unseen (c .before .is-empty3 .ensures) (c .if4 .left)) in
-    (search needs, below-more _ _ (r .before .loop .inv .1) (d .0), search needs, d .1)
+    let a = c .before in
+    let z = a .before .before .before in
+    let l = z .before .before .before .before .before .before in
+    let v = z .before .loop2 .inv in
+    let p = put-row (z .before .loop2 .known) (Badge l) _ (omega (arith, l .loop-test .taken, few (At l), v .1)) (a .put-set .ensures ∙ ap (putSet (z .before .loop2 .known) (Badge l)) (a .before .set-at .ensures)) in
+    (search needs, p .size ∙ v .1, below-more _ _ (λ w m. p .others w (λ e. omega arith) ∙ v .2 w m) (p .there), search needs, walk-done (v .4) (l .loop-test .taken) (z .loop2-test .left) (p .there) (p .others))
 
 add-t-2 : tie.Need-add-t-2 Inv-loop2 μ-loop2 Inv-loop μ-loop Inv-scan μ-scan
 add-t-2 c = search needs
@@ -265,24 +322,28 @@ scan-less-2 c = search needs
 
 scan-again-2 : tie.Need-scan-again-2 Inv-loop2 μ-loop2 Inv-loop μ-loop Inv-scan μ-scan
 scan-again-2 c =
-    let day = c .before .before .before .before .before .before .before .before .before .scan .inv .1 in
-    (search needs, below-more _ _ day (change-of _ _ _ day (tick-done _ _ (λ u l. c .before .loop .inv .1 u (omega arith)))), search needs)
+    let r = c .before .before .before .before .before .before in
+    let v = c .before .loop .inv in
+    (search needs, search needs, below-more _ _ (r .before .before .before .before .scan .inv .2) (in-day r (tick-same (N r) _ _ (λ w l. v .2 w (omega arith)) (v .4))), search needs, v .4)
 
 returns : tie.Need-returns Inv-loop2 μ-loop2 Inv-loop μ-loop Inv-scan μ-scan
 returns c =
     let a = c .before .before .before .before .args in
-    let day : IsDay (a .n) (a .ticks) (a .words .now) = record { tick = λ t l. c .before .scan .inv .1 t (omega arith) } in
+    let day : IsDay (a .n) (a .ticks) (a .words .now) = record { tick = λ t l. c .before .scan .inv .2 t (omega arith) } in
     c .before .scan .inv .0 ∙ sym (day-in _ _ _ day)
 
 returns-2 : tie.Need-returns-2 Inv-loop2 μ-loop2 Inv-loop μ-loop Inv-scan μ-scan
 returns-2 c =
-    let r = c .before .before .before .before .before .before in
-    broken r (λ p. clash (is-sub-in (sub-trans (r .before .loop .inv .3 .subset (Badge r) (r .loop-test .taken)) (p .others))) (sym (tested (c .before)) ∙ not-true _ (c .if3 .taken)))
+    let r = c .before .before .before .before in
+    broken r (λ d. clash (is-sub-in (below-rows (Tick r) (Known r) (r .changes .ensures) (r .before .before .before .before .scan .inv .4) d)) (sym (tested (c .before)) ∙ not-true _ (c .if2 .taken)))
 
 returns-3 : tie.Need-returns-3 Inv-loop2 μ-loop2 Inv-loop μ-loop Inv-scan μ-scan
 returns-3 c =
-    let i = c .before .before .before in
-    broken (Row i) (walk-broken (walk i) (Other i) (unseen-in i) (out-test _ (Badge (Row i)) (sym (mirror (c .before)) ∙ not-true _ (c .if5 .taken))))
+    let i = c .before in
+    let r = At (Of i) in
+    let same = i .before .before .loop2 .inv .2 in
+    broken r (walk-broken (walk i) (Of i .loop-test .taken) (setAt (Tick r)) (Other i) (other-unseen i) (omega (arith, c .if4 .taken)) refl
+    (λ l. ap (λ (s : ℕ). bit s (Badge (Of i))) (same (Other i) l)))
 
 pub is-day-spec : {M : Type 1} → statement M
 is-day-spec =
@@ -296,36 +357,38 @@ is-day-spec =
     μ-scan
     full-requires
     scan-holds
-    put-changes-requires
-    united-requires
+    mul-base
+    mul-base-2
+    mul-tick
+    add-tick
+    mul-tick-2
+    sub-tick
+    part-tick-start
+    part-tick-end
+    slice-aggregate-changes
+    changes-requires
     is-empty-requires
     add-t
     scan-less
     scan-again
+    is-subset-requires
     loop-holds
-    mul-from-word
-    array-read-from-word
-    from-word-requires
-    is-empty-requires-2
+    slice-aggregate-change-at
+    change-at-requires
+    lower-word-requires
     add-u
     loop-less
     loop-again
-    without-requires
-    is-subset-requires
     loop2-holds
-    is-empty-requires-3
-    smallest-requires
-    mul-from-word-2
-    array-read-from-word-2
-    from-word-requires-2
-    has-requires
-    without-requires-2
-    to-word-requires
-    mul-changed
-    array-write-changed
-    rest-requires
+    smallest-bit-requires
+    slice-aggregate-toggle
+    toggle-requires
+    without-smallest-requires
     loop2-less
     loop2-again
+    slice-aggregate-put-set
+    set-at-requires
+    put-set-requires
     add-u-2
     loop-less-2
     loop-again-2
