@@ -10,7 +10,7 @@ ghost use Rattle.chains.specs.Sweep.{traceBytes};
 ghost use Rattle.chains.specs.Judging.{StartOfDay};
 ghost use Rattle.trace.specs.Steps.{shown, reachedBy, PassedTick};
 use sets::BadgeSet;
-use sets::set_at;
+use sets::SET_WORDS;
 
 // In a trace: the tick of a badge that is never reached, and the source of a badge that has none.
 const NONE: u8 = 255;
@@ -24,22 +24,28 @@ fn clear(trace: &mut [u8])
     }
 }
 
-// The turn of a badge that was not reached before tick t, with those in contact with it: where some of them pass on it is reached, and gets the tick, and
-// the smallest of these as its source. Gives the set of those reached, with it.
+// Those of the set at a place that pass on.
+fn sources_at(words: &[u64], i: usize, passing: BadgeSet) -> BadgeSet
+    requires { ⌜ i < places (now words) ⌝ }
+    ensures { λ r. ⌜ members r ≡ intersection (setAt (now (words .entry)) i) (members passing) ⌝ }
+{
+    BadgeSet::from_word(words[i * SET_WORDS]).intersection(passing)
+}
+
+// The turn of a badge that was not reached before tick t, with those in contact with it that pass on: where there are some it is reached, and gets the tick,
+// and the smallest of these as its source. Gives the set of those reached, with it.
 fn reach(
     trace: &mut [u8],
     n: usize,
     u: usize,
     t: u8,
-    row: BadgeSet,
-    passing: BadgeSet,
+    sources: BadgeSet,
     reached: BadgeSet,
 ) -> BadgeSet
     requires { ⌜ (u < n) × (n ≤ capacity) × (length (now trace) ≡ n + n) ⌝ }
-    ensures reached { λ r. ⌜ members r ≡ reachedBy (intersection (members row) (members passing)) (members reached) u ⌝ }
-    ensures leaves { λ _. ⌜ now (trace .exit) ≡ shown n (intersection (members row) (members passing)) u t (now (trace .entry)) ⌝ }
+    ensures reached { λ r. ⌜ members r ≡ reachedBy (members sources) (members reached) u ⌝ }
+    ensures leaves { λ _. ⌜ now (trace .exit) ≡ shown n (members sources) u t (now (trace .entry)) ⌝ }
 {
-    let sources = row.intersection(passing);
     if sources.is_empty() {
         return reached;
     }
@@ -65,8 +71,8 @@ fn pass_tick(
     let mut unseen = BadgeSet::full(n).difference(passing);
     while !unseen.is_empty() {
         let u = unseen.smallest();
-        let row = set_at(words, base + u);
-        let next = reach(trace, n, u, t, row, passing, reached);
+        let sources = sources_at(words, base + u, passing);
+        let next = reach(trace, n, u, t, sources, reached);
         reached = next;
         let rest = unseen.rest();
         unseen = rest;
