@@ -36,7 +36,7 @@ use Rattle.spans.specs.CircleRecords.{circlesOf, recordsOf, circleRecords, show
 use Rattle.spans.specs.Reviews.{isReview}
 use Rattle.spans.specs.Plans.{scoreOn, membersOn, partOn, partsFrom, partsOf, isQuery, isReviewedQuery, isParts}
 use Rattle.spans.specs.PlanStatement.{sumOfOrders}
-use Rattle.spans.specs.Encoding.{encodeCore, encodeCores, reportBytes, planBytes}
+use Rattle.spans.specs.Encoding.{formOf, encodeCore, encodeCores, reportBytes, planBytes}
 use Rattle.spans.specs.Judging.{reviewOf, coreNumberBytes, spanJudged, reportJudged, planJudged}
 use Rattle.groups.specs.Calls.{coreNumbersOf, reportOf, planOf}
 use Rattle.text.specs.Decimal.{decimalIn, decimal}
@@ -69,7 +69,7 @@ trace-computing = 0
 
 -- cores, cuttings, and the calls of the group part
 groups-computing : ℕ
-unfolding trace-computing degree strip strips core reaches grow grows circle firstCircle circlesIn circles largest coreNumber contains score firstGreatest sumWith bestSum endAfter endsFrom bestEnds isSpan throughout spanNeighbours coreOn hasCore asLarge same isMaximal isGroup groupsOn groupsFrom groupsOf inRange areEnough meets kept circlesOf recordsOf circleRecords shownRecords scoreOn membersOn partOn partsFrom partsOf isReview isQuery isReviewedQuery isParts sumOfOrders encodeCore encodeCores reportBytes planBytes reviewOf coreNumberBytes spanJudged coreNumbersOf reportJudged reportOf planJudged planOf
+unfolding trace-computing degree strip strips core reaches grow grows circle firstCircle circlesIn circles largest coreNumber contains score firstGreatest sumWith bestSum endAfter endsFrom bestEnds isSpan throughout spanNeighbours coreOn hasCore asLarge same isMaximal isGroup groupsOn groupsFrom groupsOf inRange areEnough meets kept circlesOf recordsOf circleRecords shownRecords scoreOn membersOn partOn partsFrom partsOf isReview isQuery isReviewedQuery isParts sumOfOrders formOf encodeCore encodeCores reportBytes planBytes reviewOf coreNumberBytes spanJudged coreNumbersOf reportJudged reportOf planJudged planOf
 groups-computing = 0
 
 -- the listing

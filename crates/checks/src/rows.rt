@@ -1,36 +1,48 @@
-// Rows in an array, a word for each badge that a set can hold: the words of one tick copied there, and the badges that are in them.
+// Rows in an array, a set for each badge that a set can hold: the words of one tick copied there, and the badges that are in them.
 ghost use mathlib.Core.Path.{_≡_};
 ghost use Prim.Native.Nat.{min};
 ghost use lib.ListN.{length};
-ghost use Rattle.sets.specs.Members.{capacity, members};
+ghost use Rattle.sets.specs.Members.{capacity, rowWords, members};
+ghost use Rattle.sets.specs.Words.{places, wordsOf};
 ghost use Rattle.checks.specs.Arrays.{tickOver, unionOf};
 use sets::BadgeSet;
+use sets::CAPACITY;
+use sets::ROW_WORDS;
+use sets::SET_WORDS;
 
-// The smaller of a tick's number of words and 64.
+// The smaller of a tick's number of sets and the number of rows.
 fn row_count(tick: &[u64]) -> usize
-    ensures { λ r. ⌜ r ≡ min 64 (length (now (tick .entry))) ⌝ }
+    ensures { λ r. ⌜ r ≡ min capacity (places (now (tick .entry))) ⌝ }
 {
-    if tick.len() < 64 { tick.len() } else { 64 }
+    let sets = tick.len() / SET_WORDS;
+    if sets < CAPACITY { sets } else { CAPACITY }
 }
 
-// Copies the words of one tick over the rows: its first 64, and where it has fewer, the other rows stay. The rows are written through a slice of them
-// all, since of a slice made from an array it is known how many elements it has.
-pub fn copy_tick(rows: &mut [u64; 64], tick: &[u64])
-    ensures { λ _. ⌜ now (rows .exit) ≡ tickOver (now (tick .entry)) (now (rows .entry)) ⌝ }
+// Copies the words of one tick over the words of rows, set by set as many as there are of both.
+fn copy_words(rows: &mut [u64], tick: &[u64])
+    requires { ⌜ length (now rows) ≡ rowWords ⌝ }
+    ensures { λ _. ⌜ now (rows .exit) ≡ wordsOf (tickOver (now (tick .entry)) (now (rows .entry))) ⌝ }
 {
-    let all = &mut rows[..];
-    for u in 0..row_count(tick) {
-        all[u] = tick[u];
+    for i in 0..SET_WORDS * row_count(tick) {
+        rows[i] = tick[i];
     }
 }
 
-// Every badge that is in some row.
-pub fn united(rows: &[u64; 64]) -> BadgeSet
+// Copies the sets of one tick over the rows: as many as there are rows, and where it has fewer, the other rows stay. The rows are written through a slice of
+// them all, since of a slice made from an array it is known how many elements it has.
+pub fn copy_tick(rows: &mut [u64; ROW_WORDS], tick: &[u64])
+    ensures { λ _. ⌜ now (rows .exit) ≡ wordsOf (tickOver (now (tick .entry)) (now (rows .entry))) ⌝ }
+{
+    copy_words(&mut rows[..], tick);
+}
+
+// Every badge that is in some row. Rows are read by their words: a test of each place would take longer than the union.
+pub fn united(rows: &[u64; ROW_WORDS]) -> BadgeSet
     ensures { λ r. ⌜ members r ≡ unionOf capacity (now (rows .entry)) ⌝ }
 {
     let mut all: u64 = 0;
-    for u in 0..64usize {
-        all = all | rows[u];
+    for u in 0..CAPACITY {
+        all = all | rows[u * SET_WORDS];
     }
     BadgeSet::from_word(all)
 }

@@ -10,6 +10,8 @@ ghost use Rattle.sets.specs.Members.{capacity, members};
 ghost use Rattle.cores.specs.Rows.{graph};
 ghost use Rattle.circles.specs.Circles.{firstCircle, circles, atLeast};
 use sets::BadgeSet;
+use sets::ROW_WORDS;
+use sets::set_at;
 
 // How many circles a set has, and how many of them have members enough.
 pub struct Counted {
@@ -18,25 +20,25 @@ pub struct Counted {
 }
 
 // The circle of the smallest member of a set; the empty set has none. Of the members that are reached, the row of one after the other is looked at,
-// until there is none whose row was not, or nobody is left to reach.
-pub fn circle_of(rows: &[u64; 64], s: BadgeSet) -> BadgeSet
+// until none is on the frontier, of those whose row was not, or nobody is left to reach.
+pub fn circle_of(rows: &[u64; ROW_WORDS], s: BadgeSet) -> BadgeSet
     ensures { λ r. ⌜ members r ≡ firstCircle (graph (now (rows .entry))) (members s) ⌝ }
 {
-    let mut unseen = s;
     let mut unreached = s.rest();
+    let mut frontier = s.difference(unreached);
     loop {
         if unreached.is_empty() {
             return s;
         }
-        let open = unseen.difference(unreached);
-        if open.is_empty() {
+        if frontier.is_empty() {
             return s.difference(unreached);
         }
-        let u = open.smallest();
-        let left = unreached.difference(BadgeSet::from_word(rows[u]));
+        let u = frontier.smallest();
+        let met = set_at(rows, u).intersection(unreached);
+        let left = unreached.difference(met);
         unreached = left;
-        let rest = unseen.without(u);
-        unseen = rest;
+        let others = frontier.rest().union(met);
+        frontier = others;
     }
 }
 
@@ -53,7 +55,7 @@ fn tally(count: usize, circle: BadgeSet, least: usize) -> usize
 }
 
 // How many circles a set has, and how many of them have at least so many members.
-pub fn count_circles(rows: &[u64; 64], s: BadgeSet, least: usize) -> Counted
+pub fn count_circles(rows: &[u64; ROW_WORDS], s: BadgeSet, least: usize) -> Counted
     ensures all { λ r. ⌜ r .all ≡ length (circles (graph (now (rows .entry))) (members s)) ⌝ }
     ensures large { λ r. ⌜ r .large ≡ length (atLeast least (circles (graph (now (rows .entry))) (members s))) ⌝ }
 {

@@ -16,11 +16,9 @@ use lib.Seq.{getD-set-same, getD-set-other}
 use borrow.Author.Tests.{ltb-true, lt-ltb, eqb-true, eq-eqb}
 use Rattle.sets.specs.Bools.{_and_, _or_}
 use Rattle.sets.specs.Sets.{In, union, only, setOf}
-use Rattle.sets.specs.Words.{setWords, putSet, wordsOf}
-use Rattle.sets.specs.Members.{capacity, insertAt}
+use Rattle.sets.specs.Words.{setWords, setAt, putSet, wordsOf}
 use Rattle.sets.proofs.Bools.{and-in, and-left, and-right, or-left, or-right, or-of, or-false, same-test}
 use Rattle.sets.proofs.Sets.{in-union-left, in-union-right, of-union, in-only, of-only, in-set, of-set, of-set-lt}
-use Rattle.sets.proofs.OneWord.{insert-at-in}
 use Rattle.sets.proofs.Places.{put-length, set-at-words, put-words}
 use Rattle.records.specs.declared.record.Record.{Record}
 use Rattle.records.specs.declared.record.Record.the-variants.{Contact}
@@ -71,9 +69,9 @@ unfolding marked
 marked-length n ws t u v = put-length ws (t * n + u) _
 
 -- a badge put into the set of a badge at a tick is marked there
-pub insert-marked : (n : ℕ) (ws : List ℕ) (t u v : ℕ) → v < capacity → insertAt ws (t * n + u) v ≡ marked n ws t u v
+pub put-marked : (n : ℕ) (ws : List ℕ) (t u v : ℕ) → putSet ws (t * n + u) (union (setAt ws (t * n + u)) (only v)) ≡ marked n ws t u v
 unfolding marked neighbours
-insert-marked n ws t u v h = insert-at-in ws (t * n + u) v h
+put-marked n ws t u v = refl
 
 -- the relation that joins b to a in tick t and nothing else
 unfoldable joins : ℕ → ℕ → ℕ → ℕ → ℕ → ℕ → Bool

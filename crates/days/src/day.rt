@@ -3,7 +3,9 @@ ghost use mathlib.Core.Path.{_≡_};
 ghost use mathlib.Core.List.{_++_, List};
 ghost use Prim.Native.Nat.{_+_, _*_, _<_, _≤_};
 ghost use lib.ListN.{length, drop, replicate};
-ghost use Rattle.sets.specs.Words.{places};
+ghost use Rattle.sets.specs.Sets.{union, only};
+ghost use Rattle.sets.specs.Members.{capacity};
+ghost use Rattle.sets.specs.Words.{places, setAt, putSet};
 ghost use Rattle.records.specs.Limits.{maxBadges, wordsFor};
 ghost use Rattle.records.specs.Outcomes.{success};
 ghost use Rattle.records.specs.Judging.{judge};
@@ -15,7 +17,7 @@ use records::decode;
 use records::kind_of;
 use records::size_of;
 use sets::SET_WORDS;
-use sets::insert_at;
+use sets::WORD_BITS;
 
 // How many words are cleared at once. A compiler makes a call of a loop that clears words; for so few words the call takes several at once, and for many it
 // may take a step for each byte.
@@ -53,14 +55,23 @@ pub fn clear(words: &mut [u64])
     }
 }
 
+// Puts badge u into the set at place i: one word of it has room for u.
+fn mark(words: &mut [u64], i: usize, u: usize)
+    requires { ⌜ (i < places (now words)) × (u < capacity) ⌝ }
+    ensures { λ _. ⌜ now (words .exit) ≡ putSet (now (words .entry)) i (union (setAt (now (words .entry)) i) (only u)) ⌝ }
+{
+    let at = i * SET_WORDS + u / WORD_BITS;
+    words[at] = words[at] | (1 << (u % WORD_BITS));
+}
+
 // Badges a and b are in contact in tick t.
 fn mark_pair(words: &mut [u64], n: usize, t: usize, a: usize, b: usize)
     requires { ⌜ (n ≤ maxBadges) × (a < n) × (b < n) × (t * n + n ≤ places (now words)) ⌝ }
     ensures { λ _. ⌜ now (words .exit) ≡ marked n (marked n (now (words .entry)) t a b) t b a ⌝ }
 {
     let base = t * n;
-    insert_at(words, base + a, b);
-    insert_at(words, base + b, a);
+    mark(words, base + a, b);
+    mark(words, base + b, a);
 }
 
 // Badges a and b are in contact in the ticks from first to last.

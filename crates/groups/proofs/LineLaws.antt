@@ -10,6 +10,7 @@ use native.Mathlib.Omega.{arith}
 use lib.Dec.{leb, ltb}
 use lib.ListN.{getD, replicate, getD-replicate}
 use borrow.Author.Tests.{leb-true}
+use Rattle.sets.specs.Words.{setAt}
 use Rattle.sets.specs.Bools.{_and_}
 use Rattle.sets.specs.Tables.{keepIf}
 use Rattle.sets.proofs.Bools.{clash}
@@ -57,7 +58,7 @@ line-list {n} {T} {ws} {base} {first} {orders = orders} {orders′} {members′}
 
     made : ℕ → List SpanCore
     made last =
-        keepIf (ltb 0 (getD members′ last 0) and ltb (getD orders′ (suc last) 0) (getD orders′ last 0)) (record { order = getD orders′ last 0; first = first; last = last; members = getD members′ last 0 } ∷ [])
+        keepIf (ltb 0 (setAt members′ last) and ltb (getD orders′ (suc last) 0) (getD orders′ last 0)) (record { order = getD orders′ last 0; first = first; last = last; members = setAt members′ last } ∷ [])
 
     cell : (last : ℕ) → last < T → (b : Bool) → leb first last ≡ b → keepIf (leb first last) (made last) ≡ keepIf (leb first last) (groupsOn n T ws base first last)
     cell last m false e = keep-nil _ _ (λ f. clash f e) ∙ sym (keep-nil _ _ (λ f. clash f e))

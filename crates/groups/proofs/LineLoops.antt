@@ -2,7 +2,7 @@
 use mathlib.Core.Path.{_≡_, refl, sym, ap, _∙_}
 use mathlib.Core.List.{List}
 use mathlib.Core.Logic.{by-cases}
-use Prim.Native.Nat.{ℕ, _+_, _≤_, _<_, min}
+use Prim.Native.Nat.{ℕ, _+_, _*_, _≤_, _<_, min}
 use native.Mathlib.Nat.{le-refl}
 use native.Mathlib.Decide.{decLt}
 use native.Mathlib.Omega.{arith}
@@ -10,7 +10,9 @@ use lib.ListN.{length, getD, set, length-set}
 use lib.Seq.{getD-set-same, getD-set-other}
 use Rattle.sets.specs.Sets.{Sub, intersection, full}
 use Rattle.sets.specs.Members.{capacity}
+use Rattle.sets.specs.Words.{setWords, setAt, putSet}
 use Rattle.sets.proofs.Sets.{none-sub, sub-trans}
+use Rattle.sets.proofs.Places.{put-length, put-there, put-other}
 use Rattle.records.specs.Limits.{maxTicks}
 use Rattle.records.proofs.WithinLimits.{limits-of}
 use Rattle.days.specs.Days.{LentDay}
@@ -20,7 +22,7 @@ use Rattle.cores.specs.Rows.{graph}
 use Rattle.cores.proofs.Cores.{core-sub}
 use Rattle.cores.proofs.Orders.{highest-yes, highest-no, found-among}
 use Rattle.circles.specs.Circles.{circles}
-use Rattle.spans.specs.Spans.{SpanOfDay, spanNeighbours, spanRows}
+use Rattle.spans.specs.Spans.{SpanOfDay, spanNeighbours, spanWords}
 use Rattle.spans.specs.Reviews.{Review}
 use Rattle.spans.specs.SpanCores.{coreOn}
 use Rattle.spans.specs.Plans.{scoreOn}
@@ -64,7 +66,7 @@ module _ {n T : ℕ} {ws : List ℕ} {base query first last lower upper : ℕ} {
       record { score = e; new = sym (new-no n ws base query first last (omega (arith, a .below))); rows-to = a .rows-to; counted = λ p q. absurd (omega arith) }
 
   -- elsewhere the core is found from the span's rows, among the reviewed badges that are in some row
-  pub core-found : {longer : List ℕ} {s t enough order members all large : ℕ} → longer ≡ spanRows n ws first last → Unites longer s → t ≡ intersection s base
+  pub core-found : {longer : List ℕ} {s t enough order members all large : ℕ} → longer ≡ spanWords n ws first last → Unites longer s → t ≡ intersection s base
       → HighestFound (graph longer) t query lower upper order members → (1 ≤ enough → Counted (circles (graph longer) members) enough all large) → CoreFound n ws base query first last enough order members all large longer last
   unfolding scoreOn coreOn highestOrder
   core-found {longer} {s} {t} {enough} {order} {members} {all} {large} e b q h k =
@@ -115,7 +117,7 @@ first-span {first = first} d l = record { lent = d; rising = le-refl first; insi
 
 module _ {n T : ℕ} {ws : List ℕ} {base query first enough : ℕ} {orders : List ℕ} (d : LentDay n T ws) (r : Review n base) (l : first < T) (b : ScoresBefore n T ws base query first orders) where
   -- before the first tick, after one tick more, and at the end of the day
-  pub finding-start : {rows members circles large : List ℕ} → rows ≡ spanRows n ws first first → length members ≡ maxTicks → length circles ≡ maxTicks → length large ≡ maxTicks
+  pub finding-start : {rows members circles large : List ℕ} → rows ≡ spanWords n ws first first → length members ≡ maxTicks * setWords → length circles ≡ maxTicks → length large ≡ maxTicks
       → Finding n T ws base query first enough orders first rows first capacity orders members circles large
   finding-start e s u v = record {
     low = le-refl first;
@@ -155,7 +157,7 @@ module _ {n T : ℕ} {ws : List ℕ} {base query first enough : ℕ} {orders : L
     -- a span more is found, and its counts stand in the tables
     pub finding-next : {order word : ℕ} {narrowed : List ℕ} {tick : ℕ} {circles″ large″ : List ℕ} → OnlyAt last circles′ circles″ → OnlyAt last large′ large″
         → CoreFound n ws base query first last enough order word (getD circles″ last 0) (getD large″ last 0) narrowed tick
-        → Finding n T ws base query first enough orders (last + 1) narrowed tick order (set orders′ last order) (set members′ last word) circles″ large″
+        → Finding n T ws base query first enough orders (last + 1) narrowed tick order (set orders′ last order) (putSet members′ last word) circles″ large″
     finding-next {order} {word} {narrowed} {tick} {circles″} {large″} x y c = record {
       low = omega (arith, f .low);
       high = omega arith;
@@ -163,12 +165,12 @@ module _ {n T : ℕ} {ws : List ℕ} {base query first enough : ℕ} {orders : L
       above = λ i p. omega (arith, c .score, score-falls n ws base query first last first i (omega arith) (omega arith));
       found = record {
         orders-size = length-set orders′ last order ∙ f .found .orders-size;
-        members-size = length-set members′ last word ∙ f .found .members-size;
+        members-size = put-length members′ last word ∙ f .found .members-size;
         circles-size = x .size ∙ f .found .circles-size;
         large-size = y .size ∙ f .found .large-size;
         after = λ i p. getD-set-other orders′ last i order 0 (λ e. omega arith) ∙ f .found .after i (omega arith);
         score = λ i p q. put (scoreOn n ws base query first) orders′ order place-orders (c .score) (f .found .score) i p q;
-        new = λ i p q. put (newMembers n ws base query first) members′ word (place-table (f .found .members-size)) (c .new) (f .found .new) i p q;
+        new = λ i p q. by-cases (decLt i last) (λ r. before i r ∙ f .found .new i p r) (λ r. let t : i ≡ last = omega arith in rw t (there ∙ c .new));
         counted = λ k i p q r. by-cases (decLt i last) (earlier k i p r) (λ h. here k i (omega arith) r);
       };
     }
@@ -180,19 +182,25 @@ module _ {n T : ℕ} {ws : List ℕ} {base query first enough : ℕ} {orders : L
             (λ r. getD-set-other values last i value 0 (λ t. omega arith) ∙ h i p r)
             (λ r. let t : i ≡ last = omega arith in rw t (getD-set-same values last value 0 s ∙ e))
 
-        earlier : 1 ≤ enough → (i : ℕ) → first ≤ i → 0 < getD (set members′ last word) i 0 → i < last
-            → Counted (circles (spanNeighbours n ws first i) (getD (set members′ last word) i 0)) enough (getD circles″ i 0) (getD large″ i 0)
+        -- the set put at the tick, and those of the ticks before it
+        there : setAt (putSet members′ last word) last ≡ word
+        there = put-there members′ last word (omega (arith, f .found .members-size, limits-of (d .limits) .short))
+
+        before : (i : ℕ) → i < last → setAt (putSet members′ last word) i ≡ setAt members′ i
+        before i l = put-other members′ last i word (λ t. omega arith)
+
+        earlier : 1 ≤ enough → (i : ℕ) → first ≤ i → 0 < setAt (putSet members′ last word) i → i < last
+            → Counted (circles (spanNeighbours n ws first i) (setAt (putSet members′ last word) i)) enough (getD circles″ i 0) (getD large″ i 0)
         earlier k i p r l =
-            let e : getD (set members′ last word) i 0 ≡ getD members′ i 0 = getD-set-other members′ last i word 0 (λ t. omega arith) in
+            let e = before i l in
             let g = f .found .counted k i p l (rw e at r) in
             rw (e, x .other i (λ t. omega arith), y .other i (λ t. omega arith)) g
 
-        here : 1 ≤ enough → (i : ℕ) → i ≡ last → 0 < getD (set members′ last word) i 0
-            → Counted (circles (spanNeighbours n ws first i) (getD (set members′ last word) i 0)) enough (getD circles″ i 0) (getD large″ i 0)
+        here : 1 ≤ enough → (i : ℕ) → i ≡ last → 0 < setAt (putSet members′ last word) i
+            → Counted (circles (spanNeighbours n ws first i) (setAt (putSet members′ last word) i)) enough (getD circles″ i 0) (getD large″ i 0)
         here k i t r =
-            let e : getD (set members′ last word) last 0 ≡ word = getD-set-same members′ last word 0 (place-table (f .found .members-size)) in
-            let s : 0 < word = rw (t, e) at r in
-            rw (t, e) (c .counted k s)
+            let s : 0 < word = rw (t, there) at r in
+            rw (t, there) (c .counted k s)
 
 pub finding-end : {n T : ℕ} {ws : List ℕ} {base query first enough : ℕ} {orders : List ℕ} {last : ℕ} {rows : List ℕ} {reached upper : ℕ} {orders′ members′ circles′ large′ : List ℕ}
     → Finding n T ws base query first enough orders last rows reached upper orders′ members′ circles′ large′ → T ≤ last → LineFound n T ws base query first enough orders orders′ members′ circles′ large′

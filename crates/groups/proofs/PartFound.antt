@@ -9,7 +9,7 @@ use Rattle.cores.proofs.Orders.{highest-yes, found-among}
 use Rattle.innermost.specs.Columns.{transposed}
 use Rattle.innermost.proofs.Columns.{symmetric-climbed}
 use Rattle.records.proofs.WithinLimits.{limits-of}
-use Rattle.spans.specs.Spans.{SpanOfDay, spanNeighbours, spanRows}
+use Rattle.spans.specs.Spans.{SpanOfDay, spanNeighbours, spanWords}
 use Rattle.spans.specs.Reviews.{Review}
 use Rattle.spans.specs.SpanCores.{coreOn}
 use Rattle.spans.specs.Plans.{scoreOn, membersOn, partOn}
@@ -22,7 +22,7 @@ module _ {n T : ℕ} {ws : List ℕ} {base first last : ℕ} (d : SpanOfDay n T 
   members-all z = rw z
 
   -- and else the core of the order that is the score
-  pub members-core : {rows : List ℕ} {order core : ℕ} → rows ≡ spanRows n ws first last → 0 < score → HighestFound (transposed (graph rows) base) base query (score - 1) score order core
+  pub members-core : {rows : List ℕ} {order core : ℕ} → rows ≡ spanWords n ws first last → 0 < score → HighestFound (transposed (graph rows) base) base query (score - 1) score order core
       → core ≡ membersOn n ws base score first last
   unfolding membersOn coreOn scoreOn
   members-core {rows} {order} {core} e p h =

@@ -2,12 +2,11 @@
 use mathlib.Core.Path.{_≡_, refl, sym, ap, ap₂, _∙_}
 use mathlib.Core.List.{List, [], _∷_, _++_, append-assoc}
 use Prim.Native.Nat.{ℕ, zero, suc, _+_, _-_, _*_, _≤_, _<_, zero-le}
+use native.Mathlib.Nat.{mul-suc, mul-le-mul-left}
 use native.Mathlib.Numerals.{add-one}
 use native.Mathlib.Omega.{arith}
 use lib.ListN.{length, getD, take, drop, length-take, take-append-drop}
 use lib.Seq.{getD-take, take-suc}
-use Rattle.sets.specs.Ascii.{ascii}
-use Rattle.sets.specs.Bytes.{littleEndian}
 use Rattle.records.specs.declared.record.Record.the-variants.{End}
 use Rattle.records.specs.Limits.{maxTicks}
 use Rattle.records.specs.Records.{encode}
@@ -20,10 +19,11 @@ use Rattle.cuts.specs.Sums.{tableScore}
 use Rattle.spans.specs.Spans.{SpanOfDay}
 use Rattle.spans.specs.SpanCores.{SpanCore}
 use Rattle.spans.specs.Plans.{scoreOn, partOn, partsFrom}
-use Rattle.spans.specs.Encoding.{encodeCore, encodeCores, planBytes}
+use Rattle.spans.specs.Encoding.{Form, formOf, coreBytes, recordBytes, encodeCore, encodeCores, planBytes}
+use Rattle.spans.proofs.Forms.{marked}
 use Rattle.spans.proofs.Encoding.{encode-core-length}
 use Rattle.groups.specs.Appending.{AppendsCores}
-use Rattle.groups.specs.Scoring.{PlanParts, EncodesPlan}
+use Rattle.groups.specs.Scoring.{planSize, PlanParts, EncodesPlan}
 use Rattle.groups.proofs.Appended.{further, appends-none, appends-then}
 
 -- the tick after the ends so far
@@ -61,7 +61,7 @@ pub record PlanSoFar (n T : ℕ) (ws : List ℕ) (base query h : ℕ) (ends scor
   pub number : count ≡ i
   pub next : first ≡ nextFirst 0 (take i ends)
   pub low : i < h → first ≤ getD ends i 0
-  pub appended : AppendsCores (ascii "PT") 13 (partsFrom n ws base query 0 (take i ends)) 0 count buffer₀ buffer
+  pub appended : AppendsCores (formOf n .part) (formOf n .setBytes) (recordBytes n) (partsFrom n ws base query 0 (take i ends)) 0 count buffer₀ buffer
 
 -- a buffer of the same length does as well
 same-room : {n T : ℕ} {ws : List ℕ} {base query h : ℕ} {ends scores x y : List ℕ} → length y ≡ length x → PlanParts n T ws base query h ends scores x → PlanParts n T ws base query h ends scores y
@@ -91,48 +91,62 @@ module _ {n T : ℕ} {ws : List ℕ} {base query h : ℕ} {ends scores : List �
     unfolding tableScore
     plan-score = s .asked .scored .score first (getD ends i 0) (omega (arith, plan-span .rising, plan-span .inside)) (plan-span .rising) (plan-span .inside)
 
-    pub plan-room : 13 + 13 * count + 13 ≤ length buffer
-    plan-room = omega (arith, s .asked .room, s .number)
+    -- there is room for the part, in the form that the program has
+    module _ {f : Form} (same : f ≡ formOf n) where
+      pub plan-room : (f .setBytes ≤ 16) × (coreBytes (f .setBytes) + coreBytes (f .setBytes) * count + coreBytes (f .setBytes) ≤ length buffer)
+      plan-room =
+          let more : suc count ≤ h = omega (arith, s .number) in
+          rw same (marked n .most, omega (arith, s .asked .room, mul-le-mul-left (recordBytes n) more, mul-suc (recordBytes n) count))
 
-    pub plan-next : {last count′ : ℕ} {buffer′ : List ℕ} → last ≡ getD ends i 0 → AppendsCores (ascii "PT") 13 (partOn n ws base query first last ∷ []) count count′ buffer buffer′
-        → PlanSoFar n T ws base query h ends scores (i + 1) (last + 1) count′ buffer₀ buffer′
-    plan-next {last} {count′} {buffer′} e a =
-        let t : take (suc i) ends ≡ take i ends ++ (getD ends i 0 ∷ []) = take-suc ends i 0 (omega (arith, parts-few (s .asked), s .asked .ends-size)) in
-        let p : partsFrom n ws base query 0 (take (suc i) ends) ≡ partsFrom n ws base query 0 (take i ends) ++ (partOn n ws base query first last ∷ []) = rw (t, parts-more n ws base query 0 (take i ends) (getD ends i 0), ← s .next, ← e) in
-        let y : nextFirst 0 (take (suc i) ends) ≡ suc (getD ends i 0) = ap (nextFirst 0) t ∙ next-more 0 (take i ends) (getD ends i 0) in
-        let z : last + 1 ≡ suc (getD ends i 0) = omega arith in
-        rw add-one (record {
-          asked = same-room (a .size) (s .asked);
-          high = l;
-          number = omega (arith, a .number, s .number);
-          next = z ∙ sym y;
-          low = λ m. omega (arith, end-rises T h ends (s .asked .cutting) i m);
-          appended = rw p (appends-then (s .appended) a);
-        })
+      pub plan-next : {last count′ : ℕ} {buffer′ : List ℕ} → last ≡ getD ends i 0
+          → AppendsCores (f .part) (f .setBytes) (coreBytes (f .setBytes)) (partOn n ws base query first last ∷ []) count count′ buffer buffer′
+          → PlanSoFar n T ws base query h ends scores (i + 1) (last + 1) count′ buffer₀ buffer′
+      plan-next {last} {count′} {buffer′} e a =
+          let t : take (suc i) ends ≡ take i ends ++ (getD ends i 0 ∷ []) = take-suc ends i 0 (omega (arith, parts-few (s .asked), s .asked .ends-size)) in
+          let p : partsFrom n ws base query 0 (take (suc i) ends) ≡ partsFrom n ws base query 0 (take i ends) ++ (partOn n ws base query first last ∷ []) = rw (t, parts-more n ws base query 0 (take i ends) (getD ends i 0), ← s .next, ← e) in
+          let y : nextFirst 0 (take (suc i) ends) ≡ suc (getD ends i 0) = ap (nextFirst 0) t ∙ next-more 0 (take i ends) (getD ends i 0) in
+          let z : last + 1 ≡ suc (getD ends i 0) = omega arith in
+          rw add-one (record {
+            asked = same-room (a .size) (s .asked);
+            high = l;
+            number = omega (arith, a .number, s .number);
+            next = z ∙ sym y;
+            low = λ m. omega (arith, end-rises T h ends (s .asked .cutting) i m);
+            appended = rw p (appends-then (s .appended) (rw same at a));
+          })
 
 -- the header and the end make it a plan
-pub plan-end : {n T : ℕ} {ws : List ℕ} {base query h : ℕ} {ends scores : List ℕ} {i first count : ℕ} {buffer₀ buffer : List ℕ} (given left header : List ℕ)
-    → PlanSoFar n T ws base query h ends scores i first count buffer₀ buffer → h ≤ i → 13 ≤ length given
-    → header ≡ encodeCore (ascii "PH") (record { order = n; first = T; last = h; members = query }) → buffer₀ ≡ place 0 header given
-    → left ≡ place (13 + 13 * count) (encode (End count)) buffer → EncodesPlan n T ws base query h ends given left
+pub plan-end : {n T : ℕ} {ws : List ℕ} {base query h : ℕ} {ends scores : List ℕ} {i first count : ℕ} {buffer₀ buffer : List ℕ} {f : Form} (given left : List ℕ) → f ≡ formOf n
+    → PlanSoFar n T ws base query h ends scores i first count buffer₀ buffer → h ≤ i → planSize (formOf n .setBytes) h ≤ length given
+    → buffer₀ ≡ place 0 (encodeCore (f .setBytes) (f .plan) (record { order = n; first = T; last = h; members = query })) given
+    → left ≡ place (coreBytes (f .setBytes) + coreBytes (f .setBytes) * count) (encode (End count)) buffer → EncodesPlan n T ws base query h ends given left
 unfolding planBytes encodeCore
-plan-end {n} {T} {ws} {base} {query} {h} {ends} {i = i} {first} {count} {buffer₀} {buffer} given left header s l g q e f =
+plan-end {n} {T} {ws} {base} {query} {h} {ends} {i = i} {first} {count} {buffer₀} {buffer} given left same s l g e f =
+    let w = formOf n .setBytes in
+    let r = recordBytes n in
+    let header = encodeCore w (formOf n .plan) (record { order = n; first = T; last = h; members = query }) in
+    let parts = partsFrom n ws base query 0 (take h ends) in
     let j : i ≡ h = omega (arith, s .high) in
     let c : count ≡ h = omega (arith, s .number) in
-    let a : AppendsCores (ascii "PT") 13 (partsFrom n ws base query 0 (take h ends)) 0 count buffer₀ buffer = rw j at (s .appended) in
-    let m : 13 + 13 * count + length (encode (End count)) ≡ 19 + 13 * h = omega (arith, length-encode (End count)) in
-    let k : length header ≡ 13 = ap length q ∙ encode-core-length (ascii "PH") refl (record { order = n; first = T; last = h; members = query }) in
-    let head : take 13 buffer₀ ≡ header = rw k at (ap (take (0 + length header)) e ∙ take-place 0 header given (omega arith)) in
-    let front : take (19 + 13 * h) left ≡ planBytes n T h query (partsFrom n ws base query 0 (take h ends)) =
-    ap₂ (λ (x : ℕ) (y : List ℕ). take x y) (sym m) f
-    ∙ take-place (13 + 13 * count) (encode (End count)) buffer (omega (arith, s .asked .room))
-    ∙ ap₂ _++_ (a .bytes ∙ ap (λ (x : List ℕ). x ++ encodeCores (ascii "PT") (partsFrom n ws base query 0 (take h ends))) (head ∙ q)) (ap (λ (x : ℕ). encode (End x)) c)
-    ∙ append-assoc (ascii "PH" ++ (n ∷ T ∷ h ∷ littleEndian 8 query)) (encodeCores (ascii "PT") (partsFrom n ws base query 0 (take h ends))) (encode (End h)) in
-    let laid : drop 13 buffer₀ ≡ drop 13 given = rw k at (ap (drop (0 + length header)) e ∙ drop-place 0 header given (omega arith)) in
-    let back : drop (19 + 13 * h) left ≡ drop (19 + 13 * h) given =
-    ap₂ (λ (x : ℕ) (y : List ℕ). drop x y) (sym m) f
-    ∙ drop-place (13 + 13 * count) (encode (End count)) buffer (omega (arith, s .asked .room))
+    let a : AppendsCores (formOf n .part) w r parts 0 count buffer₀ buffer = rw j at (s .appended) in
+    let start : buffer₀ ≡ place 0 header given = rw same at e in
+    let end : left ≡ place (r + r * count) (encode (End count)) buffer = rw same at f in
+    let room : planSize w count ≤ length buffer = rw c (s .asked .room) in
+    let m : r + r * count + length (encode (End count)) ≡ planSize w h = rw (← c) (omega (arith, length-encode (End count))) in
+    let k : 0 + length header ≡ r = omega (arith, encode-core-length w (formOf n .plan) (marked n .plan) (record { order = n; first = T; last = h; members = query })) in
+    let head : take r buffer₀ ≡ header = rw k at (ap (take (0 + length header)) start ∙ take-place 0 header given (omega arith)) in
+    let none : r + r * 0 ≡ r = omega arith in
+    let first-parts : take (r + r * count) buffer ≡ header ++ encodeCores w (formOf n .part) parts = a .bytes ∙ ap (λ (x : List ℕ). x ++ encodeCores w (formOf n .part) parts) (ap (λ (x : ℕ). take x buffer₀) none ∙ head) in
+    let front : take (planSize w h) left ≡ planBytes n T h query parts =
+    ap₂ (λ (x : ℕ) (y : List ℕ). take x y) (sym m) end
+    ∙ take-place (r + r * count) (encode (End count)) buffer (omega (arith, room, length-encode (End count)))
+    ∙ ap₂ _++_ first-parts (ap (λ (x : ℕ). encode (End x)) c)
+    ∙ append-assoc header (encodeCores w (formOf n .part) parts) (encode (End h)) in
+    let laid : drop r buffer₀ ≡ drop r given = rw k at (ap (drop (0 + length header)) start ∙ drop-place 0 header given (omega arith)) in
+    let back : drop (planSize w h) left ≡ drop (planSize w h) given =
+    ap₂ (λ (x : ℕ) (y : List ℕ). drop x y) (sym m) end
+    ∙ drop-place (r + r * count) (encode (End count)) buffer (omega (arith, room, length-encode (End count)))
     ∙ ap (λ (x : ℕ). drop x buffer) m
-    ∙ further (13 + 13 * count) (19 + 13 * h) buffer buffer₀ (omega arith) (a .rest)
-    ∙ further 13 (19 + 13 * h) buffer₀ given (omega arith) laid in
-    record { bytes = sym (take-append-drop (19 + 13 * h) left) ∙ ap₂ _++_ front back }
+    ∙ further (r + r * count) (planSize w h) buffer buffer₀ (omega (arith, m)) (a .rest)
+    ∙ further r (planSize w h) buffer₀ given (omega arith) laid in
+    record { bytes = sym (take-append-drop (planSize w h) left) ∙ ap₂ _++_ front back }

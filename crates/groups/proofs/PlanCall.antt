@@ -2,7 +2,7 @@
 use mathlib.Core.Path.{_≡_, refl, sym, ap, _∙_}
 use mathlib.Core.Bool.{true}
 use mathlib.Core.List.{List, _++_}
-use Prim.Native.Nat.{ℕ, _+_, _*_, _≤_, _<_}
+use Prim.Native.Nat.{ℕ, _≤_, _<_}
 use native.Mathlib.Omega.{arith}
 use lib.ListN.{length, take, drop}
 use Rattle.sets.specs.Sets.{isSub, full}
@@ -15,12 +15,12 @@ use Rattle.cuts.specs.Sums.{bestEnds, tableScore, endsOf}
 use Rattle.cuts.proofs.Sums.{best-ends, ends-same}
 use Rattle.cuts.proofs.EndsOf.{ends-of}
 use Rattle.spans.specs.Plans.{scoreOn, partsFrom, partsOf}
-use Rattle.spans.specs.Encoding.{planBytes}
+use Rattle.spans.specs.Encoding.{formOf, planBytes}
 use Rattle.spans.specs.Judging.{planJudged}
 use Rattle.spans.proofs.MostGroups.{plan-length}
 use Rattle.spans.proofs.PlanParts.{parts-length}
 use Rattle.spans.proofs.Judging.{judged-plan}
-use Rattle.groups.specs.Scoring.{Scores}
+use Rattle.groups.specs.Scoring.{planSize, Scores}
 
 -- ends that cut a day into h runs, and into the parts of the plan
 pub record PlanEnds (n T : ℕ) (ws : List ℕ) (base query h : ℕ) (ends : List ℕ) : Type 0 where
@@ -32,21 +32,26 @@ module _ (n T : ℕ) (ws : List ℕ) (base query h : ℕ) (q : isSub query (full
   planned : List ℕ
   planned = planBytes n T h query (partsOf n T ws base query h)
 
-  planned-size : length planned ≡ 19 + 13 * h
+  planned-size : length planned ≡ planSize (formOf n .setBytes) h
   unfolding planned partsOf
-  planned-size = plan-length n T h query (partsOf n T ws base query h) (parts-length n ws base query 0 (bestEnds (scoreOn n ws base query) T h) ∙ best-ends (scoreOn n ws base query) T h l m .best .cutting .count)
+  planned-size = omega (arith, plan-length n T h query (partsOf n T ws base query h) (parts-length n ws base query 0 (bestEnds (scoreOn n ws base query) T h) ∙ best-ends (scoreOn n ws base query) T h l m .best .cutting .count))
 
   -- a buffer that is shorter gets 9,
-  pub planned-short : length buffer < 19 + 13 * h → (refused 9 0 ≡ deliver (planJudged n T ws base query h) buffer .answer) × (buffer ≡ deliver (planJudged n T ws base query h) buffer .buffer)
+  pub planned-short : {w : ℕ} → w ≡ formOf n .setBytes → length buffer < planSize w h → (refused 9 0 ≡ deliver (planJudged n T ws base query h) buffer .answer) × (buffer ≡ deliver (planJudged n T ws base query h) buffer .buffer)
   unfolding planned
-  planned-short s = let d = ap (λ (o : Outcome (List ℕ)). deliver o buffer) (judged-plan n T ws base query h q v l m) ∙ deliver-short planned buffer (omega (arith, planned-size)) in (rw d refl, rw d refl)
+  planned-short same s =
+      let size : length buffer < planSize (formOf n .setBytes) h = rw same at s in
+      let d = ap (λ (o : Outcome (List ℕ)). deliver o buffer) (judged-plan n T ws base query h q v l m) ∙ deliver-short planned buffer (omega (arith, planned-size)) in
+      (rw d refl, rw d refl)
 
   -- and one that holds the plan has it in front
-  pub planned-fits : {left : List ℕ} → 19 + 13 * h ≤ length buffer → left ≡ planBytes n T h query (partsOf n T ws base query h) ++ drop (19 + 13 * h) buffer
-      → (success (19 + 13 * h) ≡ deliver (planJudged n T ws base query h) buffer .answer) × (left ≡ deliver (planJudged n T ws base query h) buffer .buffer)
+  pub planned-fits : {w : ℕ} {left : List ℕ} → w ≡ formOf n .setBytes → planSize w h ≤ length buffer → left ≡ planBytes n T h query (partsOf n T ws base query h) ++ drop (planSize (formOf n .setBytes) h) buffer
+      → (success (planSize w h) ≡ deliver (planJudged n T ws base query h) buffer .answer) × (left ≡ deliver (planJudged n T ws base query h) buffer .buffer)
   unfolding planned
-  planned-fits s e = let d = ap (λ (o : Outcome (List ℕ)). deliver o buffer) (judged-plan n T ws base query h q v l m) ∙ deliver-fits planned buffer (omega (arith, planned-size)) in
-      (rw d (ap (λ (x : ℕ). success x) (sym planned-size)), rw d (e ∙ ap (λ (x : ℕ). planned ++ drop x buffer) (sym planned-size)))
+  planned-fits {w} same s e =
+      let size : planSize w h ≡ length planned = rw same (sym planned-size) in
+      let d = ap (λ (o : Outcome (List ℕ)). deliver o buffer) (judged-plan n T ws base query h q v l m) ∙ deliver-fits planned buffer (omega (arith, size)) in
+      (rw d (ap (λ (x : ℕ). success x) size), rw d (e ∙ ap (λ (x : ℕ). planned ++ drop x buffer) (sym planned-size)))
 
 -- those found from a table of the scores are such
 pub table-ends : {n T : ℕ} {ws : List ℕ} {base query h : ℕ} {scores : List ℕ} (ends : List ℕ) → Scores n T ws base query T scores → 1 ≤ h → h ≤ T → T ≤ maxTicks → ends ≡ endsOf scores T h

@@ -26,7 +26,7 @@ use Rattle.groups.specs.ShiftPlans.{PlansShifts, PlanShown}
 parts-said : {n T : ℕ} {ws : List ℕ} {base query h : ℕ} → PlanAsked n T ws base query h → planRecords (planBytes n T h query (partsOf n T ws base query h)) ≡ partsOf n T ws base query h
 parts-said {n} {T} {ws} {base} {query} {h} a =
     let l = limits-of (a .lent .limits) in
-    plan-said n T h query (partsOf n T ws base query h) (plan-small a) (plan-count a) (omega (arith, a .enough, l .short))
+    plan-said n T h query (partsOf n T ws base query h) (omega (arith, l .few)) (plan-small a) (plan-count a) (omega (arith, a .enough, l .short))
 
 -- it passes every judgement before 9
 pub plan-passes : {n T : ℕ} {ws : List ℕ} {base query h : ℕ} → PlanAsked n T ws base query h → (buffer : List ℕ)

@@ -3,9 +3,10 @@ use mathlib.Core.Path.{_≡_, refl, sym, ap, ap₂, subst, _∙_}
 use mathlib.Core.Bool.{true}
 use mathlib.Core.List.{List, [], _∷_, _++_, append-assoc, append-nil, List·Memᴰ·head, List·Memᴰ·tail, Memᴰ·append-right}
 use Prim.Native.Nat.{ℕ, _+_, _-_, _*_, _≤_, _<_}
+use native.Mathlib.Nat.{mul-le-mul-left}
 use native.Mathlib.Omega.{arith}
 use lib.ListN.{length, getD, take, drop, take-append-drop, length-append}
-use Rattle.sets.specs.Ascii.{ascii}
+use Rattle.sets.specs.Words.{setAt, wordsOf}
 use Rattle.sets.specs.Sets.{size}
 use Rattle.sets.specs.Members.{capacity}
 use Rattle.sets.proofs.Size.{size-le}
@@ -21,27 +22,28 @@ use Rattle.cores.specs.Rows.{graph}
 use Rattle.circles.specs.Circles.{atLeast, circles as circles′}
 use Rattle.circles.proofs.CircleLists.{circles-few}
 use Rattle.thresholds.specs.declared.Thresholds.{Thresholds}
-use Rattle.spans.specs.Spans.{spanNeighbours, spanRows}
+use Rattle.spans.specs.Spans.{spanNeighbours, spanWords}
 use Rattle.spans.specs.Reviews.{Review}
 use Rattle.spans.specs.SpanCores.{SpanCore, Mem}
 use Rattle.spans.specs.Reports.{groupsOf}
 use Rattle.spans.specs.KeptGroups.{meets, kept}
 use Rattle.spans.specs.CircleRecords.{circlesOf, recordsOf, circleRecords, shownRecords}
 use Rattle.spans.specs.CoreStatement.{CoreStatement}
-use Rattle.spans.specs.Encoding.{maxCores, maxRecords, encodeCores, reportBytes}
+use Rattle.spans.specs.Encoding.{Form, maxCores, maxRecords, formOf, coreBytes, recordBytes, encodeCores, reportBytes}
 use Rattle.spans.proofs.SpanCircles.{day-small, span-circles}
 use Rattle.spans.proofs.GroupLists.{of-groups, group-few, groups-stated, cores-stated}
 use Rattle.spans.proofs.KeptRecords.{meets-of, of-kept, kept-append, kept-records, kept-le}
 use Rattle.spans.proofs.KeptCores.{kept-enough, whole-circle}
 use Rattle.spans.proofs.RecordLists.{circle-records-append}
 use Rattle.spans.proofs.CircleStated.{core-span, core-inside, core-small}
+use Rattle.spans.proofs.Forms.{marked}
 use Rattle.spans.proofs.MostGroups.{report-length, groups-few}
 use Rattle.spans.proofs.MostRecords.{records-few, most-small}
-use Rattle.groups.specs.Keeping.{packed, total, Unpacked, circleCount, recordCount, FindsCores}
+use Rattle.groups.specs.Keeping.{packsOf, setsOf, total, Unpacked, circleCount, recordCount, FindsCores}
 use Rattle.groups.specs.Appending.{AppendsCores, largeRecords, RowsOf, CoreToSplit, shownBytes, ReportCores, EncodesReport, DeliversReport}
 use Rattle.groups.proofs.Appended.{further, appends-none, appends-then}
 use Rattle.groups.proofs.KeptMemory.{kept-at}
-use Rattle.groups.proofs.CircleLoop.{large-one, large-length}
+use Rattle.groups.proofs.CircleLoop.{circle-room, large-one, large-length}
 
 -- ---- the cores that are kept
 
@@ -97,45 +99,47 @@ module _ {n T : ℕ} {ws : List ℕ} {base : ℕ} (lent : LentDay n T ws) (r : R
         length-append (kept least (recordsOf n ws c)) (kept least (circleRecords n ws cs)),
       )
 
-  found-records : {count records : ℕ} {memory memory′ : List ℕ} → FindsCores n T ws base least count records memory memory′ → records ≡ length (shownRecords n T ws base least)
+  found-records : {count records : ℕ} {packs packs′ memory memory′ : List ℕ} → FindsCores n T ws base least count records packs packs′ memory memory′ → records ≡ length (shownRecords n T ws base least)
   found-records f = omega (arith, f .made, total-records cores (λ c i. i), ap length cores-shown)
 
-  pub found-few : {count records : ℕ} {memory memory′ : List ℕ} → FindsCores n T ws base least count records memory memory′ → (count ≤ maxCores) × (records ≤ 255 * maxCores)
+  pub found-few : {count records : ℕ} {packs packs′ memory memory′ : List ℕ} → FindsCores n T ws base least count records packs packs′ memory memory′ → (count ≤ maxCores) × (records ≤ 255 * maxCores)
   found-few f =
       let few = groups-few n T ws base (limits-of (lent .limits) .short) in
       let h = f .few (omega arith) in
       (omega (arith, f .number, kept-le least (groupsOf n T ws base)), omega (arith, h, f .number, kept-le least (groupsOf n T ws base)))
 
-  -- so long is the report, and the memory and a buffer that holds it are what it is written from
-  pub found-size : {count records : ℕ} {memory memory′ : List ℕ} → FindsCores n T ws base least count records memory memory′ → 10 + 13 * records ≡ length (shownBytes n T ws base least)
-  found-size f = omega (arith, found-records f, report-length n T (shownRecords n T ws base least))
+  -- so long is the report, by the bytes of a set, and the memory and a buffer that holds it are what it is written from
+  pub found-size : {w count records : ℕ} {packs packs′ memory memory′ : List ℕ} → w ≡ formOf n .setBytes → FindsCores n T ws base least count records packs packs′ memory memory′
+      → 10 + coreBytes w * records ≡ length (shownBytes n T ws base least)
+  found-size same f = rw same (ap (λ (k : ℕ). 10 + recordBytes n * k) (found-records f) ∙ sym (report-length n T (shownRecords n T ws base least)))
 
-  pub found-cores : {count records : ℕ} {memory memory′ buffer : List ℕ} → FindsCores n T ws base least count records memory memory′ → 2 * maxCores ≤ length memory → 10 + 13 * records ≤ length buffer
-      → ReportCores n T ws base least count memory′ buffer
-  found-cores f m h = record {
+  pub found-cores : {w count records : ℕ} {packs packs′ memory memory′ buffer : List ℕ} → w ≡ formOf n .setBytes → FindsCores n T ws base least count records packs packs′ memory memory′ → maxCores ≤ length packs → 10 + coreBytes w * records ≤ length buffer
+      → ReportCores n T ws base least count packs′ memory′ buffer
+  found-cores same f m h = record {
     lent = lent;
     reviewed = r;
     number = omega (arith, f .number);
-    words = f .words;
+    in-packs = f .in-packs;
+    in-memory = f .in-memory;
     few = found-few f .0;
-    size = omega (arith, found-few f .0, f .size);
-    room = omega (arith, found-size f);
+    size = omega (arith, found-few f .0, f .packs-size);
+    room = omega (arith, found-size same f);
   }
 
 -- ---- a core that is split
 
-module _ {n T : ℕ} {ws : List ℕ} {enough : ℕ} {c : SpanCore} {circles count : ℕ} {buffer : List ℕ} (d : CoreToSplit n T ws enough c circles count buffer) where
+module _ {n T : ℕ} {ws : List ℕ} {enough : ℕ} {c : SpanCore} {circles w count : ℕ} {buffer : List ℕ} (d : CoreToSplit n T ws enough c circles w count buffer) where
   -- a core of one circle is its own record, and has room
   pub whole-record : circles ≡ 1 → largeRecords c enough (circlesOf n ws c) ≡ c ∷ []
   whole-record e =
       let f : circlesOf n ws c ≡ c .members ∷ [] = whole-circle n ws c (sym (d .number) ∙ e) (day-small (d .span .lent) (c .members) (d .named)) in
       rw f (large-one c enough (c .members) (d .many))
 
-  pub whole-room : circles ≡ 1 → 4 + 13 * count + 13 ≤ length buffer
-  whole-room e = omega (arith, d .room .room, large-length c enough (circlesOf n ws c), ap length (whole-record e))
+  pub whole-room : circles ≡ 1 → (w ≤ 16) × (4 + coreBytes w * count + coreBytes w ≤ length buffer)
+  whole-room e = circle-room (d .room) (sym (large-length c enough (circlesOf n ws c)) ∙ ap length (whole-record e))
 
   -- the circles of any other are found from the rows of its span
-  pub split-circles : {rows : List ℕ} → rows ≡ spanRows n ws (c .first) (c .last) → circles′ (graph rows) (c .members) ≡ circlesOf n ws c
+  pub split-circles : {rows : List ℕ} → rows ≡ spanWords n ws (c .first) (c .last) → circles′ (graph rows) (c .members) ≡ circlesOf n ws c
   unfolding circlesOf
   split-circles e = rw e (span-circles (d .span) (c .members) (d .named))
 
@@ -147,32 +151,30 @@ pub record ReportSoFar (n T : ℕ) (ws : List ℕ) (base : ℕ) (least : Thresho
   pub left : List SpanCore
   pub all : kept least (groupsOf n T ws base) ≡ done ++ left
   pub turn : i ≡ length done
-  pub appended : AppendsCores (ascii "GR") 4 (kept least (circleRecords n ws done)) 0 count buffer₀ buffer
+  pub appended : AppendsCores (formOf n .group) (formOf n .setBytes) 4 (kept least (circleRecords n ws done)) 0 count buffer₀ buffer
   pub rows-of : RowsOf n T ws first last rows
 
 pub written-none : {n T : ℕ} {ws : List ℕ} {base : ℕ} {least : Thresholds} {rows buffer : List ℕ} → RowsOf n T ws 0 0 rows → ReportSoFar n T ws base least 0 0 0 0 rows buffer buffer
 unfolding circleRecords kept
 written-none {n} {T} {ws} {base} {least} r = record { done = []; left = kept least (groupsOf n T ws base); all = refl; turn = refl; appended = appends-none; rows-of = r }
 
-module _ {n T : ℕ} {ws : List ℕ} {base : ℕ} {least : Thresholds} {cores : ℕ} {memory given : List ℕ} (p : ReportCores n T ws base least cores memory given) where
+module _ {n T : ℕ} {ws : List ℕ} {base : ℕ} {least : Thresholds} {cores : ℕ} {packs memory given : List ℕ} (p : ReportCores n T ws base least cores packs memory given) where
   -- the records of the cores before a place and from it on are those of the report
   shown-apart : (xs ys : List SpanCore) → kept least (groupsOf n T ws base) ≡ xs ++ ys → shownRecords n T ws base least ≡ kept least (circleRecords n ws xs) ++ kept least (circleRecords n ws ys)
   shown-apart xs ys e =
       sym (cores-shown (p .lent) (p .reviewed) least) ∙ ap (λ (cs : List SpanCore). kept least (circleRecords n ws cs)) e ∙ ap (kept least) (circle-records-append n ws xs ys)
       ∙ kept-append least (circleRecords n ws xs) (circleRecords n ws ys)
 
-  room-for : (xs ys : List SpanCore) → kept least (groupsOf n T ws base) ≡ xs ++ ys → 10 + 13 * (length (kept least (circleRecords n ws xs)) + length (kept least (circleRecords n ws ys))) ≤ length given
-  room-for xs ys e = omega (
-    arith,
-    p .room,
-    report-length n T (shownRecords n T ws base least),
-    ap length (shown-apart xs ys e),
-    length-append (kept least (circleRecords n ws xs)) (kept least (circleRecords n ws ys)),
-  )
+  room-for : (xs ys : List SpanCore) → kept least (groupsOf n T ws base) ≡ xs ++ ys → 10 + recordBytes n * (length (kept least (circleRecords n ws xs)) + length (kept least (circleRecords n ws ys))) ≤ length given
+  room-for xs ys e =
+      let both = ap length (shown-apart xs ys e) ∙ length-append (kept least (circleRecords n ws xs)) (kept least (circleRecords n ws ys)) in
+      omega (arith, p .room, report-length n T (shownRecords n T ws base least), ap (λ (k : ℕ). recordBytes n * k) both)
 
   module _ {i count first last : ℕ} {rows buffer₀ buffer : List ℕ} (s : ReportSoFar n T ws base least i count first last rows buffer₀ buffer) (size : length buffer₀ ≡ length given) where
-    written-count : 10 + 13 * count ≤ length buffer
-    written-count = omega (arith, room-for (s .done) (s .left) (s .all), s .appended .number, s .appended .size)
+    written-count : 10 + recordBytes n * count ≤ length buffer
+    written-count =
+        let few : count ≤ length (kept least (circleRecords n ws (s .done))) + length (kept least (circleRecords n ws (s .left))) = omega (arith, s .appended .number) in
+        omega (arith, room-for (s .done) (s .left) (s .all), mul-le-mul-left (recordBytes n) few, s .appended .size)
 
     -- so far there are few
     pub written-few : count ≤ maxRecords
@@ -208,43 +210,41 @@ module _ {n T : ℕ} {ws : List ℕ} {base : ℕ} {least : Thresholds} {cores : 
       core-in : Mem core (kept least (groupsOf n T ws base))
       core-in = subst (λ (cs : List SpanCore). Mem core cs) (sym apart) (Memᴰ·append-right (s .done) (List·Memᴰ·head refl))
 
-      -- its words are among those of the memory
-      pub word-inside : 2 * i + 1 < length memory
-      word-inside = omega (arith, p .size)
+      -- its pack is among the packs
+      pub pack-inside : i < length packs
+      pack-inside = omega (arith, p .size)
 
       -- they say the core
-      module _ {d : SpanCore} {circles : ℕ} (u : Unpacked (getD memory (2 * i) 0) (getD memory (2 * i + 1) 0) d circles) where
+      module _ {d : SpanCore} {circles : ℕ} (u : Unpacked (getD packs i 0) (setAt memory i) d circles) {f : Form} (same : f ≡ formOf n) where
         told : (d ≡ core) × (circles ≡ circleCount n ws core)
         told =
             let b = core-bytes (p .lent) (p .reviewed) least core core-in in
-            kept-at (circleCount n ws) cores memory (s .done) core after (p .words ∙ ap (packed (circleCount n ws)) apart) (omega (arith, s .turn)) (b .0) (b .1) (b .2) (b .3) (rw (s .turn) at u)
+            kept-at (circleCount n ws) cores packs memory (s .done) core after (p .in-packs ∙ ap (packsOf (circleCount n ws)) apart) (p .in-memory ∙ ap (λ (cs : List SpanCore). wordsOf (setsOf cs)) apart) (omega (arith, s .turn)) (b .0) (b .1) (b .2) (b .3) (rw (s .turn) at u)
 
-        pub written-split : CoreToSplit n T ws (least .members) d circles count buffer
+        pub written-split : CoreToSplit n T ws (least .members) d circles (f .setBytes) count buffer
         unfolding circleCount recordCount circleRecords
-        written-split = rw (told .0) (record {
+        written-split = rw (same, told .0) (record {
           span = core-span (p .lent) (p .reviewed .named) (stated (p .lent) (p .reviewed) least) core core-in;
           named = core-inside (p .lent) (p .reviewed .named) (stated (p .lent) (p .reviewed) least) core core-in;
           number = told .1;
           many = meets-of least core (core-meets (p .lent) (p .reviewed) least core core-in) .2;
-          room = record { room = room };
+          room = record { short = marked n .most; room = omega (arith, room-for (s .done) (core ∷ after) apart, mul-le-mul-left (recordBytes n) few, s .appended .size) };
         })
           where
-            room : 4 + 13 * (count + length (atLeast (least .members) (circlesOf n ws core))) ≤ length buffer
-            room = omega (
+            few : count + length (atLeast (least .members) (circlesOf n ws core)) ≤ length (kept least (circleRecords n ws (s .done))) + length (kept least (circleRecords n ws (core ∷ after)))
+            few = omega (
               arith,
-              room-for (s .done) (core ∷ after) apart,
               s .appended .number,
-              s .appended .size,
               record-length (p .lent) (p .reviewed) least core core-in,
               ap length (kept-append least (recordsOf n ws core) (circleRecords n ws after)),
               length-append (kept least (recordsOf n ws core)) (kept least (circleRecords n ws after)),
             )
 
-        pub written-more : {count′ first′ last′ : ℕ} {rows′ buffer′ : List ℕ} → AppendsCores (ascii "GR") 4 (largeRecords d (least .members) (circlesOf n ws d)) count count′ buffer buffer′
+        pub written-more : {count′ first′ last′ : ℕ} {rows′ buffer′ : List ℕ} → AppendsCores (f .group) (f .setBytes) 4 (largeRecords d (least .members) (circlesOf n ws d)) count count′ buffer buffer′
             → RowsOf n T ws first′ last′ rows′ → ReportSoFar n T ws base least (i + 1) count′ first′ last′ rows′ buffer₀ buffer′
         unfolding circleRecords
         written-more {count′} {first′} {last′} {rows′} {buffer′} a r =
-            let b : AppendsCores (ascii "GR") 4 (kept least (recordsOf n ws core)) count count′ buffer buffer′ = rw (told .0, core-records (p .lent) (p .reviewed) least core core-in) at a in
+            let b : AppendsCores (formOf n .group) (formOf n .setBytes) 4 (kept least (recordsOf n ws core)) count count′ buffer buffer′ = rw (same, told .0, core-records (p .lent) (p .reviewed) least core core-in) at a in
             let e : circleRecords n ws (s .done ++ (core ∷ [])) ≡ circleRecords n ws (s .done) ++ recordsOf n ws core = circle-records-append n ws (s .done) (core ∷ []) ∙ ap (λ (cs : List SpanCore). circleRecords n ws (s .done) ++ cs) (append-nil (recordsOf n ws core)) in
             record {
               done = s .done ++ (core ∷ []);
@@ -255,38 +255,53 @@ module _ {n T : ℕ} {ws : List ℕ} {base : ℕ} {least : Thresholds} {cores : 
               rows-of = r;
             }
 
-  -- the header leaves the buffer as long as it was
-  pub header-size : {buffer₀ : List ℕ} → buffer₀ ≡ place 0 (ascii "RH" ++ (n ∷ T ∷ [])) given → length buffer₀ ≡ length given
-  header-size e = ap length e ∙ length-place 0 (ascii "RH" ++ (n ∷ T ∷ [])) given (omega (arith, p .room, report-length n T (shownRecords n T ws base least)))
+  -- the header
+  abbrev header : List ℕ
+  header = formOf n .report ++ (n ∷ T ∷ [])
+
+  header-four : length header ≡ 4
+  header-four = omega (arith, length-append (formOf n .report) (n ∷ T ∷ []), marked n .report)
+
+  -- leaves the buffer as long as it was
+  pub header-size : {f : Form} {buffer₀ : List ℕ} → f ≡ formOf n → buffer₀ ≡ place 0 (f .report ++ (n ∷ T ∷ [])) given → length buffer₀ ≡ length given
+  header-size {f} {buffer₀} same e =
+      let start : buffer₀ ≡ place 0 header given = rw same at e in
+      ap length start ∙ length-place 0 header given (omega (arith, header-four, p .room, report-length n T (shownRecords n T ws base least)))
 
   -- the header and the end make it a report
-  pub written-end : {i count first last : ℕ} {rows buffer₀ buffer left : List ℕ} → ReportSoFar n T ws base least i count first last rows buffer₀ buffer → cores ≤ i → buffer₀ ≡ place 0 (ascii "RH" ++ (n ∷ T ∷ [])) given
-      → length buffer₀ ≡ length given → left ≡ place (4 + 13 * count) (encode (End count)) buffer → EncodesReport n T ws base least given left
+  pub written-end : {i count first last : ℕ} {rows buffer₀ buffer left : List ℕ} {f : Form} → f ≡ formOf n → ReportSoFar n T ws base least i count first last rows buffer₀ buffer → cores ≤ i
+      → buffer₀ ≡ place 0 (f .report ++ (n ∷ T ∷ [])) given → length buffer₀ ≡ length given → left ≡ place (4 + coreBytes (f .setBytes) * count) (encode (End count)) buffer → EncodesReport n T ws base least given left
   unfolding reportBytes
-  written-end {i} {count} {buffer₀ = buffer₀} {buffer} {left} s h e z f =
+  written-end {i} {count} {buffer₀ = buffer₀} {buffer} {left} same s h e z f =
       let records = shownRecords n T ws base least in
+      let w = formOf n .setBytes in
+      let r = recordBytes n in
       let none : s .left ≡ [] = no-more (s .left) (omega (arith, p .number, s .turn, ap length (s .all), length-append (s .done) (s .left))) in
       let whole : kept least (circleRecords n ws (s .done)) ≡ records =
       ap (λ (cs : List SpanCore). kept least (circleRecords n ws cs)) (sym (s .all ∙ ap (λ (cs : List SpanCore). s .done ++ cs) none ∙ append-nil (s .done))) ∙ cores-shown (p .lent) (p .reviewed) least in
-      let a : AppendsCores (ascii "GR") 4 records 0 count buffer₀ buffer = rw whole at (s .appended) in
+      let a : AppendsCores (formOf n .group) w 4 records 0 count buffer₀ buffer = rw whole at (s .appended) in
+      let start : buffer₀ ≡ place 0 header given = rw same at e in
+      let end : left ≡ place (4 + r * count) (encode (End count)) buffer = rw same at f in
       let c : count ≡ length records = omega (arith, a .number) in
-      let m : 4 + 13 * count + length (encode (End count)) ≡ 10 + 13 * count = omega (arith, length-encode (End count)) in
-      let k : 10 + 13 * count ≤ length buffer = written-count s z in
-      let head : take 4 buffer₀ ≡ ascii "RH" ++ (n ∷ T ∷ []) = rw e (take-place 0 (ascii "RH" ++ (n ∷ T ∷ [])) given (omega (arith, k, s .appended .size))) in
-      let front : take (10 + 13 * count) left ≡ reportBytes n T records =
-      ap₂ (λ (x : ℕ) (y : List ℕ). take x y) (sym m) f
-      ∙ take-place (4 + 13 * count) (encode (End count)) buffer (omega arith)
-      ∙ ap₂ _++_ (a .bytes ∙ ap (λ (x : List ℕ). x ++ encodeCores (ascii "GR") records) head) (ap (λ (x : ℕ). encode (End x)) c)
-      ∙ append-assoc (ascii "RH" ++ (n ∷ T ∷ [])) (encodeCores (ascii "GR") records) (encode (End (length records))) in
-      let laid : drop 4 buffer₀ ≡ drop 4 given = rw e (drop-place 0 (ascii "RH" ++ (n ∷ T ∷ [])) given (omega (arith, k, s .appended .size))) in
-      let back : drop (10 + 13 * count) left ≡ drop (10 + 13 * count) given =
-      ap₂ (λ (x : ℕ) (y : List ℕ). drop x y) (sym m) f
-      ∙ drop-place (4 + 13 * count) (encode (End count)) buffer (omega arith)
+      let m : 4 + r * count + length (encode (End count)) ≡ 10 + r * count = omega (arith, length-encode (End count)) in
+      let k : 10 + r * count ≤ length buffer = written-count s z in
+      let none-yet : 4 + r * 0 ≡ 4 = omega arith in
+      let head : take 4 buffer₀ ≡ header = rw header-four at (ap (take (0 + length header)) start ∙ take-place 0 header given (omega (arith, header-four, k, s .appended .size))) in
+      let first-records : take (4 + r * count) buffer ≡ header ++ encodeCores w (formOf n .group) records = a .bytes ∙ ap (λ (x : List ℕ). x ++ encodeCores w (formOf n .group) records) (ap (λ (x : ℕ). take x buffer₀) none-yet ∙ head) in
+      let front : take (10 + r * count) left ≡ reportBytes n T records =
+      ap₂ (λ (x : ℕ) (y : List ℕ). take x y) (sym m) end
+      ∙ take-place (4 + r * count) (encode (End count)) buffer (omega (arith, m, k))
+      ∙ ap₂ _++_ first-records (ap (λ (x : ℕ). encode (End x)) c)
+      ∙ append-assoc header (encodeCores w (formOf n .group) records) (encode (End (length records))) in
+      let laid : drop 4 buffer₀ ≡ drop 4 given = rw header-four at (ap (drop (0 + length header)) start ∙ drop-place 0 header given (omega (arith, header-four, k, s .appended .size))) in
+      let back : drop (10 + r * count) left ≡ drop (10 + r * count) given =
+      ap₂ (λ (x : ℕ) (y : List ℕ). drop x y) (sym m) end
+      ∙ drop-place (4 + r * count) (encode (End count)) buffer (omega (arith, m, k))
       ∙ ap (λ (x : ℕ). drop x buffer) m
-      ∙ further (4 + 13 * count) (10 + 13 * count) buffer buffer₀ (omega arith) (a .rest)
-      ∙ further 4 (10 + 13 * count) buffer₀ given (omega arith) laid in
-      let long : 10 + 13 * count ≡ length (reportBytes n T records) = omega (arith, report-length n T records) in
-      record { bytes = sym (take-append-drop (10 + 13 * count) left) ∙ ap₂ _++_ front (back ∙ ap (λ (x : ℕ). drop x given) long) }
+      ∙ further (4 + r * count) (10 + r * count) buffer buffer₀ (omega arith) (a .rest)
+      ∙ further 4 (10 + r * count) buffer₀ given (omega arith) laid in
+      let long : 10 + r * count ≡ length (reportBytes n T records) = ap (λ (x : ℕ). 10 + r * x) c ∙ sym (report-length n T records) in
+      record { bytes = sym (take-append-drop (10 + r * count) left) ∙ ap₂ _++_ front (back ∙ ap (λ (x : ℕ). drop x given) long) }
     where
       no-more : (cs : List SpanCore) → length cs ≡ 0 → cs ≡ []
       no-more [] q = refl

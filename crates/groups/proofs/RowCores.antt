@@ -18,38 +18,38 @@ use Rattle.cores.proofs.Degrees.{FewerPairs, pairs-refl}
 use Rattle.cores.proofs.Cores.{core-sub, core-cohesive, core-largest, core-mono, core-same}
 use Rattle.cores.proofs.Orders.{SameCores, number-among}
 use Rattle.checks.proofs.TickRows.{Unites}
-use Rattle.spans.specs.Spans.{SpanOfDay, spanNeighbours, spanRows}
+use Rattle.spans.specs.Spans.{SpanOfDay, spanNeighbours, spanWords}
 use Rattle.spans.specs.Judging.{coreNumberBytes}
-use Rattle.spans.proofs.SpanRows.{in-span, of-span, span-row}
+use Rattle.spans.proofs.SpanRows.{in-span, of-span, span-set}
 
 -- among badges of the day, the rows of a span have the cores of the span
-pub rows-cores : (n : ℕ) (ws : List ℕ) (first last : ℕ) → n ≤ capacity → {base : ℕ} → Sub base (full n) → {rows : List ℕ} → rows ≡ spanRows n ws first last
+pub rows-cores : (n : ℕ) (ws : List ℕ) (first last : ℕ) → n ≤ capacity → {base : ℕ} → Sub base (full n) → {rows : List ℕ} → rows ≡ spanWords n ws first last
     → SameCores (graph rows) (spanNeighbours n ws first last) base base
 rows-cores n ws first last w {base} r e = record { at = λ j l. rw e (core-same base j fewer more) }
   where
-    row : (u : ℕ) → In base u → graph (spanRows n ws first last) u ≡ spanNeighbours n ws first last u
-    row u i = span-row n ws first last u w (of-full n u (r .at u i))
+    row : (u : ℕ) → In base u → graph (spanWords n ws first last) u ≡ spanNeighbours n ws first last u
+    row u i = span-set n ws first last u w (of-full n u (r .at u i))
 
-    fewer : FewerPairs base (graph (spanRows n ws first last)) (spanNeighbours n ws first last)
+    fewer : FewerPairs base (graph (spanWords n ws first last)) (spanNeighbours n ws first last)
     fewer = record { pair = λ u v i j k. rw (row u i) at k }
 
-    more : FewerPairs base (spanNeighbours n ws first last) (graph (spanRows n ws first last))
+    more : FewerPairs base (spanNeighbours n ws first last) (graph (spanWords n ws first last))
     more = record { pair = λ u v i j k. rw (row u i) k }
 
 -- the core numbers found from a span's rows, among badges of the day, are those of the span
-pub numbers-found : (n : ℕ) (ws : List ℕ) (base first last : ℕ) → n ≤ capacity → Sub base (full n) → take n (coreNumbers (spanRows n ws first last) base) ≡ coreNumberBytes n ws base first last
+pub numbers-found : (n : ℕ) (ws : List ℕ) (base first last : ℕ) → n ≤ capacity → Sub base (full n) → take n (coreNumbers (spanWords n ws first last) base) ≡ coreNumberBytes n ws base first last
 unfolding coreNumbers coreNumberBytes
 numbers-found n ws base first last w r = tabulate-take capacity n _ w ∙ tabulate-same n _ _ (λ u l. number-among (rows-cores n ws first last w r refl) u)
 
 -- ---- the rows of a day are symmetric, and so the highest core by in-degrees is that by degrees
 
-module _ {n T : ℕ} {ws : List ℕ} {first last : ℕ} (d : SpanOfDay n T ws first last) {rows : List ℕ} (e : rows ≡ spanRows n ws first last) where
+module _ {n T : ℕ} {ws : List ℕ} {first last : ℕ} (d : SpanOfDay n T ws first last) {rows : List ℕ} (e : rows ≡ spanWords n ws first last) where
   few : n ≤ capacity
   few = limits-of (d .lent .limits) .few
 
   -- the row of a badge of the day is that of its neighbours on the span
   row : (u : ℕ) → u < n → graph rows u ≡ spanNeighbours n ws first last u
-  row u l = rw e (span-row n ws first last u few l)
+  row u l = rw e (span-set n ws first last u few l)
 
   -- a badge's neighbours have it for a neighbour
   back : (u v : ℕ) → u < n → v < n → In (graph rows u) v → In (graph rows v) u
@@ -64,7 +64,7 @@ module _ {n T : ℕ} {ws : List ℕ} {first last : ℕ} (d : SpanOfDay n T ws fi
 -- ---- the badges that are in some row
 
 -- Every core of order 1 or more, of badges of a set, is among those of the set that are in some row.
-module _ {n T : ℕ} {ws : List ℕ} {first last : ℕ} (d : SpanOfDay n T ws first last) {rows : List ℕ} (e : rows ≡ spanRows n ws first last) {s : ℕ} (b : Unites rows s) {base : ℕ} (r : Sub base (full n)) where
+module _ {n T : ℕ} {ws : List ℕ} {first last : ℕ} (d : SpanOfDay n T ws first last) {rows : List ℕ} (e : rows ≡ spanWords n ws first last) {s : ℕ} (b : Unites rows s) {base : ℕ} (r : Sub base (full n)) where
   member : (j : ℕ) → 1 ≤ j → (v : ℕ) → In (core (graph rows) base j) v → In (intersection s base) v
   unfolding degree
   member j l v i =

@@ -8,6 +8,7 @@ use native.Mathlib.Decide.{decLt}
 use native.Mathlib.Omega.{arith}
 use lib.ListN.{length, getD, set, length-set, replicate}
 use lib.Seq.{getD-set-same, getD-set-other}
+use Rattle.sets.specs.Words.{setWords}
 use Rattle.records.specs.Limits.{maxTicks}
 use Rattle.records.proofs.WithinLimits.{limits-of}
 use Rattle.days.specs.Days.{LentDay}
@@ -48,7 +49,7 @@ module _ {T first : ℕ} {orders scores : List ℕ} (p : LinePlaces T first orde
 -- The loop over the first ticks, at tick first: the runs that start before it are in the table, and the scores of those that start one tick
 -- before it are at hand.
 pub record ScoredBefore (n T : ℕ) (ws : List ℕ) (base query first : ℕ) (orders members circles large scores : List ℕ) : Type 0 where
-  pub members-size : length members ≡ maxTicks
+  pub members-size : length members ≡ maxTicks * setWords
   pub circles-size : length circles ≡ maxTicks
   pub large-size : length large ≡ maxTicks
   pub before : ScoresBefore n T ws base query first orders
@@ -60,7 +61,7 @@ module _ {n T : ℕ} {ws : List ℕ} (d : LentDay n T ws) where
 
   -- before the first tick
   pub scored-none : (base query : ℕ) {scores : List ℕ} → length scores ≡ maxTicks * maxTicks
-      → ScoredBefore n T ws base query 0 (replicate (suc maxTicks) 0) (replicate maxTicks 0) (replicate maxTicks 0) (replicate maxTicks 0) scores
+      → ScoredBefore n T ws base query 0 (replicate (suc maxTicks) 0) (replicate (maxTicks * setWords) 0) (replicate maxTicks 0) (replicate maxTicks 0) scores
   scored-none base query e = record {
     members-size = refl;
     circles-size = refl;

@@ -3,22 +3,24 @@
 use mathlib.Core.Path.{_≡_, sym, ap₂, _∙_}
 use mathlib.Core.List.{List}
 use mathlib.Core.Logic.{by-cases}
-use Prim.Native.Nat.{ℕ, suc, _*_, _≤_, _<_}
+use Prim.Native.Nat.{ℕ, suc, _+_, _*_, _≤_, _<_}
 use native.Mathlib.Nat.{le-refl}
 use native.Mathlib.Decide.{decLt, decLe}
 use native.Mathlib.Omega.{arith}
-use lib.ListN.{length, getD, take, drop, length-take, List·getD-eq-default}
+use lib.Bits.{and-le-l}
+use lib.ListN.{length, getD, drop, length-take}
 use Rattle.sets.specs.Sets.{In, full, intersection}
-use Rattle.sets.specs.Members.{capacity}
+use Rattle.sets.specs.Members.{capacity, rowWords}
 use Rattle.sets.specs.Tables.{tabulate, piecewise}
-use Rattle.sets.specs.Words.{setWords, setAt}
+use Rattle.sets.specs.Words.{setWords, Words, setAt}
 use Rattle.sets.proofs.Sets.{in-intersection, of-intersection-left, of-intersection-right, in-lt, in-full, of-full, ext}
-use Rattle.sets.proofs.Places.{one-word}
-use Rattle.sets.proofs.Tables.{tabulate-same, piecewise-in, piecewise-out}
+use Rattle.sets.proofs.Tables.{tabulate-length, tabulate-at, tabulate-same, piecewise-in, piecewise-out}
+use Rattle.sets.proofs.Places.{set-at-out, set-at-same, sets-same}
+use Rattle.sets.proofs.EachWord.{set-at-intersection}
 use Rattle.days.specs.Days.{neighbours, IsDay}
 use Rattle.days.proofs.Days.{neighbours-part}
-use Rattle.spans.specs.Spans.{spanNeighbours, spanRows}
-use Rattle.spans.proofs.SpanRows.{in-span, of-span, span-row, span-row-none}
+use Rattle.spans.specs.Spans.{spanNeighbours, spanRows, spanWords}
+use Rattle.spans.proofs.SpanRows.{in-span, of-span, span-words-length, span-set, span-set-none, span-words-fit}
 use Rattle.groups.specs.Steps.{tickOf}
 
 -- rows that are those of a span below n and empty from n up are the rows of the span
@@ -31,20 +33,17 @@ rows-are n ws first last f h g =
     (λ p. h u p ∙ sym (piecewise-in (full n) _ _ u (in-full n u p)))
     (λ p. g u (omega arith) ∙ sym (piecewise-out (full n) _ _ u (λ i. omega (arith, of-full n u i)))))
 
--- the words of a tick: the neighbours of each badge below n, and nothing from n up
-tick-at : (n : ℕ) (ws : List ℕ) (t u : ℕ) → u < n → getD (tickOf n ws t) u 0 ≡ neighbours n ws t u
+-- the sets of a tick: the neighbours of each badge below n, and nothing from n up
+tick-at : (n : ℕ) (ws : List ℕ) (t u : ℕ) → u < n → setAt (tickOf n ws t) u ≡ neighbours n ws t u
 unfolding tickOf
-tick-at n ws t u l =
-    let a : n ≡ n * setWords = omega arith in
-    let b : t * n ≡ t * n * setWords = omega arith in
-    one-word (take n (drop (t * n) ws)) u ∙ ap₂ (λ (x y : ℕ). setAt (take x (drop y ws)) u) a b ∙ neighbours-part n ws t n u l
+tick-at n ws t u l = neighbours-part n ws t n u l
 
-tick-past : (n : ℕ) (ws : List ℕ) (t u : ℕ) → n ≤ u → getD (tickOf n ws t) u 0 ≡ 0
+tick-past : (n : ℕ) (ws : List ℕ) (t u : ℕ) → n ≤ u → setAt (tickOf n ws t) u ≡ 0
 unfolding tickOf
-tick-past n ws t u l = List·getD-eq-default (take n (drop (t * n) ws)) 0 (omega (arith, length-take n (drop (t * n) ws)))
+tick-past n ws t u l = set-at-out (tickOf n ws t) u (omega (arith, length-take (n * setWords) (drop (t * n * setWords) ws)))
 
 -- the rows of one tick of a day are those of the span of this tick alone
-pub tick-span : (n T : ℕ) (ws : List ℕ) (t : ℕ) → IsDay n T ws → t < T → tabulate capacity (λ u. getD (tickOf n ws t) u 0) ≡ spanRows n ws t t
+pub tick-span : (n T : ℕ) (ws : List ℕ) (t : ℕ) → IsDay n T ws → t < T → tabulate capacity (setAt (tickOf n ws t)) ≡ spanRows n ws t t
 tick-span n T ws t d l = rows-are n ws t t _ (λ u k. tick-at n ws t u k ∙ ext _ _ (there u k) (back u)) (tick-past n ws t)
   where
     there : (u : ℕ) → u < n → (v : ℕ) → In (neighbours n ws t u) v → In (spanNeighbours n ws t t u) v
@@ -71,15 +70,55 @@ longer n ws first last u h = ext _ _ there back
         let s = of-span n ws first (suc last) u v i in
         in-intersection _ _ v (in-span n ws first last u v (s .0) (λ t p q. s .1 t p (omega arith))) (s .1 (suc last) (omega arith) (le-refl _))
 
--- rows of which those of the tick's badges have only the neighbours of the tick
+-- words of rows of which the first are intersected with those of a tick
 unfoldable pub narrowed : List ℕ → List ℕ → List ℕ
-narrowed rows tick = tabulate capacity (piecewise (full (length tick)) (λ u. intersection (getD rows u 0) (getD tick u 0)) (λ u. getD rows u 0))
+narrowed rows tick = tabulate rowWords (piecewise (full (length tick)) (λ i. intersection (getD rows i 0) (getD tick i 0)) (λ i. getD rows i 0))
+
+module _ (rows tick : List ℕ) where
+  narrowed-length : length (narrowed rows tick) ≡ rowWords
+  unfolding narrowed
+  narrowed-length = tabulate-length rowWords _
+
+  narrowed-in : (i : ℕ) → i < rowWords → i < length tick → getD (narrowed rows tick) i 0 ≡ intersection (getD rows i 0) (getD tick i 0)
+  unfolding narrowed
+  narrowed-in i k l = tabulate-at rowWords _ i k ∙ piecewise-in (full (length tick)) _ _ i (in-full _ i l)
+
+  narrowed-out : (i : ℕ) → i < rowWords → (i < length tick → ⊥) → getD (narrowed rows tick) i 0 ≡ getD rows i 0
+  unfolding narrowed
+  narrowed-out i k l = tabulate-at rowWords _ i k ∙ piecewise-out (full (length tick)) _ _ i (λ j. l (of-full _ i j))
+
+  narrowed-fit : length rows ≡ rowWords → Words rows → Words (narrowed rows tick)
+  unfolding intersection
+  narrowed-fit e w = record {
+    at = λ i l.
+        let k : i < rowWords = rw narrowed-length at l in
+        let x = w .at i (omega arith) in
+        by-cases (decLt i (length tick)) (λ p. rw (narrowed-in i k p) (omega (arith, and-le-l (getD rows i 0) (getD tick i 0)))) (λ p. rw (narrowed-out i k p) x);
+  }
 
 -- narrowed by the next tick, the rows of a span are those of the span that is longer by this tick
-pub narrow-span : (n : ℕ) (ws : List ℕ) (first last : ℕ) → n ≤ capacity → first ≤ last → length (tickOf n ws (suc last)) ≡ n
-    → narrowed (spanRows n ws first last) (tickOf n ws (suc last)) ≡ spanRows n ws first (suc last)
-unfolding narrowed
-narrow-span n ws first last w h e =
-    rw e (rows-are n ws first (suc last) _
-    (λ u k. piecewise-in (full n) _ _ u (in-full n u k) ∙ ap₂ intersection (span-row n ws first last u w k) (tick-at n ws (suc last) u k) ∙ longer n ws first last u h)
-    (λ u k. piecewise-out (full n) _ _ u (λ i. omega (arith, of-full n u i)) ∙ span-row-none n ws first last u k))
+module _ (n : ℕ) (ws : List ℕ) (first last : ℕ) (w : n ≤ capacity) (h : first ≤ last) (e : length (tickOf n ws (suc last)) ≡ n * setWords) (f : Words (tickOf n ws (suc last))) where
+  abbrev rows : List ℕ
+  rows = spanWords n ws first last
+
+  abbrev tick : List ℕ
+  tick = tickOf n ws (suc last)
+
+  narrow-at : (u : ℕ) → u < capacity → setAt (narrowed rows tick) u ≡ setAt (spanWords n ws first (suc last)) u
+  narrow-at u l = by-cases (decLt u n)
+      (λ p.
+      set-at-intersection (narrowed rows tick) rows tick u u u
+      (rw (narrowed-length rows tick) (omega arith)) (rw (span-words-length n ws first last) (omega arith)) (omega arith) (span-words-fit n ws first last w) f
+      (λ x m. narrowed-in rows tick (u * setWords + x) (omega arith) (omega arith))
+      ∙ ap₂ intersection (span-set n ws first last u w p) (tick-at n ws (suc last) u p)
+      ∙ longer n ws first last u h
+      ∙ sym (span-set n ws first (suc last) u w p))
+      (λ p.
+      set-at-same (narrowed rows tick) rows u u (rw (narrowed-length rows tick) (omega arith)) (rw (span-words-length n ws first last) (omega arith))
+      (λ x m. narrowed-out rows tick (u * setWords + x) (omega arith) (λ q. p (omega arith)))
+      ∙ span-set-none n ws first last u (omega arith)
+      ∙ sym (span-set-none n ws first (suc last) u (omega arith)))
+
+  pub narrow-span : narrowed rows tick ≡ spanWords n ws first (suc last)
+  narrow-span = sets-same capacity _ _ (narrowed-length rows tick) (span-words-length n ws first (suc last))
+      (narrowed-fit rows tick (span-words-length n ws first last) (span-words-fit n ws first last w)) (span-words-fit n ws first (suc last) w) narrow-at

@@ -1,8 +1,9 @@
 -- What the functions that find the scores of the spans with one first tick promise.
 use mathlib.Core.List.{List}
 use mathlib.Core.Path.{_≡_}
-use Prim.Native.Nat.{ℕ, suc, _≤_, _<_}
+use Prim.Native.Nat.{ℕ, suc, _*_, _≤_, _<_}
 use lib.ListN.{length, getD}
+use Rattle.sets.specs.Words.{setWords, setAt}
 use Rattle.records.specs.Limits.{maxTicks}
 use Rattle.cores.specs.Rows.{graph}
 use Rattle.circles.specs.Circles.{circles, atLeast}
@@ -32,14 +33,14 @@ pub record ScoresBefore (n T : ℕ) (ws : List ℕ) (base query first : ℕ) (or
   pub score : (last : ℕ) → first ≤ last → last < T → getD orders last 0 ≡ scoreBefore n ws base query first last
   pub end : getD orders T 0 ≡ 0
 
--- scores and members by last tick: those of the spans that start with first; and, where a number of members is enough for a circle, how many circles
+-- scores and, as sets in words, members by last tick: those of the spans that start with first; and, where a number of members is enough for a circle, how many circles
 -- there are of these members
 pub record LineFound (n T : ℕ) (ws : List ℕ) (base query first enough : ℕ) (orders orders′ members′ circles′ large′ : List ℕ) : Type 0 where
   pub orders-size : length orders′ ≡ length orders
-  pub members-size : length members′ ≡ maxTicks
+  pub members-size : length members′ ≡ maxTicks * setWords
   pub circles-size : length circles′ ≡ maxTicks
   pub large-size : length large′ ≡ maxTicks
   pub after : (last : ℕ) → T ≤ last → getD orders′ last 0 ≡ getD orders last 0
   pub score : (last : ℕ) → first ≤ last → last < T → getD orders′ last 0 ≡ scoreOn n ws base query first last
-  pub new : (last : ℕ) → first ≤ last → last < T → getD members′ last 0 ≡ newMembers n ws base query first last
-  pub counted : 1 ≤ enough → (last : ℕ) → first ≤ last → last < T → 0 < getD members′ last 0 → Counted (circles (spanNeighbours n ws first last) (getD members′ last 0)) enough (getD circles′ last 0) (getD large′ last 0)
+  pub new : (last : ℕ) → first ≤ last → last < T → setAt members′ last ≡ newMembers n ws base query first last
+  pub counted : 1 ≤ enough → (last : ℕ) → first ≤ last → last < T → 0 < setAt members′ last → Counted (circles (spanNeighbours n ws first last) (setAt members′ last)) enough (getD circles′ last 0) (getD large′ last 0)

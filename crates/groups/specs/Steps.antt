@@ -2,13 +2,14 @@
 use mathlib.Core.Path.{_≡_}
 use mathlib.Core.List.{List}
 use Prim.Native.Nat.{ℕ, suc, _*_, _≤_}
-use lib.ListN.{length, getD, take, drop}
+use lib.ListN.{length, take, drop}
 use Rattle.sets.specs.Members.{capacity}
-use Rattle.spans.specs.Spans.{spanRows}
+use Rattle.sets.specs.Words.{setWords, Words, setAt}
+use Rattle.spans.specs.Spans.{spanWords}
 
 -- the words of tick t
 unfoldable pub tickOf : ℕ → List ℕ → ℕ → List ℕ
-tickOf n ws t = take n (drop (t * n) ws)
+tickOf n ws t = take (n * setWords) (drop (t * n * setWords) ws)
 
 -- Rows are those of a span of some day's words, and the words of a tick are those of the tick after it: what a narrowing step is given.
 pub record NextTick (rows tick : List ℕ) : Type 0 where
@@ -18,20 +19,21 @@ pub record NextTick (rows tick : List ℕ) : Type 0 where
   pub last : ℕ
   pub few : badges ≤ capacity
   pub rising : first ≤ last
-  pub span : rows ≡ spanRows badges words first last
+  pub span : rows ≡ spanWords badges words first last
   pub next : tick ≡ tickOf badges words (suc last)
-  pub whole : length tick ≡ badges
+  pub whole : length tick ≡ badges * setWords
+  pub fit : Words tick
 
 -- What the step leaves: the rows of the span that is longer by this tick, whichever span the rows are of.
 pub record Narrows (rows tick longer : List ℕ) : Type 0 where
-  pub span : (s : NextTick rows tick) → longer ≡ spanRows (s .badges) (s .words) (s .first) (suc (s .last))
+  pub span : (s : NextTick rows tick) → longer ≡ spanWords (s .badges) (s .words) (s .first) (suc (s .last))
 
 -- rows of a span that starts with tick first, to a tick that is not after tick last
 pub record RowsTo (n : ℕ) (ws : List ℕ) (first last : ℕ) (rows : List ℕ) (reached : ℕ) : Type 0 where
   pub low : first ≤ reached
   pub high : reached ≤ last
-  pub are : rows ≡ spanRows n ws first reached
+  pub are : rows ≡ spanWords n ws first reached
 
--- an array of rows in which those from n up are empty
+-- words of rows in which those from n up are empty
 pub record EmptyFrom (n : ℕ) (rows : List ℕ) : Type 0 where
-  pub past : (u : ℕ) → n ≤ u → getD rows u 0 ≡ 0
+  pub past : (u : ℕ) → n ≤ u → setAt rows u ≡ 0

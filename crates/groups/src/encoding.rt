@@ -3,7 +3,9 @@ ghost use mathlib.Core.Path.{_≡_};
 ghost use mathlib.Core.List.{_∷_, []};
 ghost use Prim.Native.Nat.{_+_, _*_, _≤_};
 ghost use lib.ListN.{length};
-ghost use Rattle.spans.specs.Encoding.{encodeCore};
+ghost use Rattle.sets.specs.Bytes.{littleEndian};
+ghost use Rattle.log.specs.Buffers.{place};
+ghost use Rattle.spans.specs.Encoding.{coreBytes, encodeCore};
 ghost use Rattle.groups.specs.Appending.{coreOf, AppendsCores};
 use log::put;
 use sets::BadgeSet;
@@ -16,13 +18,11 @@ pub(crate) struct Shown {
     pub(crate) members: BadgeSet,
 }
 
-// The bytes of a record with a mark. A plan's header is laid out alike: its mark, n, T, h, query.
-pub(crate) fn record_bytes(a: u8, b: u8, shown: Shown) -> [u8; 13]
-    ensures { λ r. ⌜ r ≡ encodeCore (a ∷ b ∷ []) (coreOf shown) ⌝ }
+// The bytes of a word, the lowest first.
+fn word_bytes(word: u64) -> [u8; 8]
+    ensures { λ r. ⌜ r ≡ littleEndian 8 word ⌝ }
 {
-    let set = shown.members;
-    let members = set.to_word();
-    let m1 = members / 256;
+    let m1 = word / 256;
     let m2 = m1 / 256;
     let m3 = m2 / 256;
     let m4 = m3 / 256;
@@ -30,12 +30,7 @@ pub(crate) fn record_bytes(a: u8, b: u8, shown: Shown) -> [u8; 13]
     let m6 = m5 / 256;
     let m7 = m6 / 256;
     [
-        a,
-        b,
-        shown.order,
-        shown.first,
-        shown.last,
-        (members % 256) as u8,
+        (word % 256) as u8,
         (m1 % 256) as u8,
         (m2 % 256) as u8,
         (m3 % 256) as u8,
@@ -46,19 +41,61 @@ pub(crate) fn record_bytes(a: u8, b: u8, shown: Shown) -> [u8; 13]
     ]
 }
 
-// Appends a record with a mark to so many that stand after a header of so many bytes, and answers how many there are then.
+// The bytes of a record with a mark and a set of 16 bytes, of which the upper 8 say 0 since a set has one word. They start with the bytes of the same record
+// with a shorter set.
+fn record_bytes(mark: [u8; 2], shown: Shown) -> [u8; 21]
+    ensures { λ r. ⌜ r ≡ encodeCore 16 mark (coreOf shown) ⌝ }
+{
+    let set = shown.members;
+    let lower = word_bytes(set.to_word());
+    let upper = word_bytes(0);
+    [
+        mark[0],
+        mark[1],
+        shown.order,
+        shown.first,
+        shown.last,
+        lower[0],
+        lower[1],
+        lower[2],
+        lower[3],
+        lower[4],
+        lower[5],
+        lower[6],
+        lower[7],
+        upper[0],
+        upper[1],
+        upper[2],
+        upper[3],
+        upper[4],
+        upper[5],
+        upper[6],
+        upper[7],
+    ]
+}
+
+// Puts a record with a mark and a set of so many bytes at a place of a buffer. A plan's header is laid out alike: its mark, n, T, h, query.
+pub(crate) fn put_core(buffer: &mut [u8], at: usize, mark: [u8; 2], width: usize, shown: Shown)
+    requires { ⌜ width ≤ 16 ⌝ }
+    ensures { λ _. ⌜ now (buffer .exit) ≡ place at (encodeCore width mark (coreOf shown)) (now (buffer .entry)) ⌝ }
+{
+    let bytes = record_bytes(mark, shown);
+    let size = 5 + width;
+    put(buffer, at, &bytes[0..size]);
+}
+
+// Appends a record with a mark and a set of so many bytes to so many that stand after a header of so many bytes, and answers how many there are then.
 pub(crate) fn append_record(
     buffer: &mut [u8],
     header: usize,
     count: usize,
-    a: u8,
-    b: u8,
+    mark: [u8; 2],
+    width: usize,
     shown: Shown,
 ) -> usize
-    requires { ⌜ header + 13 * count + 13 ≤ length (now buffer) ⌝ }
-    ensures { λ r. ⌜ AppendsCores (a ∷ b ∷ []) header (coreOf shown ∷ []) count r (now (buffer .entry)) (now (buffer .exit)) ⌝ }
+    requires { ⌜ (width ≤ 16) × (header + coreBytes width * count + coreBytes width ≤ length (now buffer)) ⌝ }
+    ensures { λ r. ⌜ AppendsCores mark width header (coreOf shown ∷ []) count r (now (buffer .entry)) (now (buffer .exit)) ⌝ }
 {
-    let bytes = record_bytes(a, b, shown);
-    put(buffer, header + 13 * count, &bytes);
+    put_core(buffer, header + (5 + width) * count, mark, width, shown);
     count + 1
 }

@@ -1,8 +1,9 @@
 // The scores of the spans that start with one tick, the members of their cores, and how many circles these have.
 ghost use mathlib.Core.Path.{_≡_};
-ghost use Prim.Native.Nat.{_<_};
+ghost use Prim.Native.Nat.{_*_, _<_};
 ghost use lib.ListN.{length};
 ghost use Rattle.sets.specs.Members.{members};
+ghost use Rattle.sets.specs.Words.{setWords};
 ghost use Rattle.records.specs.Limits.{maxTicks};
 ghost use Rattle.days.specs.Days.{LentDay};
 ghost use Rattle.spans.specs.Reviews.{Review};
@@ -14,11 +15,14 @@ use checks::united;
 use circles::count_circles;
 use innermost::highest_core;
 use sets::BadgeSet;
+use sets::CAPACITY;
+use sets::ROW_WORDS;
+use sets::put_set;
 
 // Puts how many circles a core has, and how many of these have members enough, into two tables, at a last tick. They are found from the rows that came
 // back from peeling. Where no number of members is enough, none is counted, and the tables stay.
 fn count_core(
-    rows: &[u64; 64],
+    rows: &[u64; ROW_WORDS],
     core: BadgeSet,
     enough: usize,
     last: usize,
@@ -53,19 +57,19 @@ pub(crate) fn find_line(
     circles: &mut [u8],
     large: &mut [u8],
 )
-    requires { ⌜ LentDay (day .badges) (day .ticks) (now words) × Review (day .badges) (members (day .review)) × (first < day .ticks) × ScoresBefore (day .badges) (day .ticks) (now words) (members (day .review)) (members query) first (now orders) × (length (now cores) ≡ maxTicks) × (length (now circles) ≡ maxTicks) × (length (now large) ≡ maxTicks) ⌝ }
+    requires { ⌜ LentDay (day .badges) (day .ticks) (now words) × Review (day .badges) (members (day .review)) × (first < day .ticks) × ScoresBefore (day .badges) (day .ticks) (now words) (members (day .review)) (members query) first (now orders) × (length (now cores) ≡ maxTicks * setWords) × (length (now circles) ≡ maxTicks) × (length (now large) ≡ maxTicks) ⌝ }
     ensures { λ _. ⌜ LineFound (day .badges) (day .ticks) (now (words .entry)) (members (day .review)) (members query) first enough (now (orders .entry)) (now (orders .exit)) (now (cores .exit)) (now (circles .exit)) (now (large .exit)) ⌝ }
 {
-    let mut rows = [0u64; 64];
+    let mut rows = [0u64; ROW_WORDS];
     first_rows(&mut rows, words, day, first);
     let mut reached = first;
-    let mut upper: u8 = 64;
+    let mut upper = CAPACITY as u8;
     for last in first..day.ticks {
         let lower = orders[last];
         if upper <= lower {
             upper = lower;
             orders[last] = lower;
-            cores[last] = 0;
+            put_set(cores, last, BadgeSet::EMPTY);
             continue;
         }
         narrow_to(&mut rows, words, day, first, reached, last);
@@ -78,7 +82,7 @@ pub(crate) fn find_line(
         let members = core.members;
         upper = core.order;
         orders[last] = core.order;
-        cores[last] = members.to_word();
+        put_set(cores, last, members);
         count_core(&rows, members, enough, last, circles, large);
     }
 }

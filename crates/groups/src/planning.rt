@@ -3,13 +3,13 @@ ghost use mathlib.Core.Path.{_≡_};
 ghost use mathlib.Core.List.{_∷_, []};
 ghost use Prim.Native.Nat.{_+_, _*_, _≤_, _<_};
 ghost use lib.ListN.{length};
-ghost use Rattle.sets.specs.Ascii.{ascii};
 ghost use Rattle.sets.specs.Members.{members};
 ghost use Rattle.days.specs.Days.{LentDay};
 ghost use Rattle.log.specs.Buffers.{deliver};
 ghost use Rattle.spans.specs.Spans.{SpanOfDay};
 ghost use Rattle.spans.specs.Reviews.{Review};
 ghost use Rattle.spans.specs.Plans.{scoreOn, membersOn, partOn};
+ghost use Rattle.spans.specs.Encoding.{coreBytes};
 ghost use Rattle.spans.specs.Judging.{planJudged};
 ghost use Rattle.groups.specs.Refusals.{writtenOutcome};
 ghost use Rattle.groups.specs.Appending.{AppendsCores};
@@ -21,14 +21,16 @@ use crate::day::Day;
 use crate::day::Span;
 use crate::encoding::Shown;
 use crate::encoding::append_record;
-use crate::encoding::record_bytes;
+use crate::encoding::put_core;
+use crate::form::Form;
+use crate::form::form_of;
+use crate::form::set_bytes;
 use crate::refusal::Refusal;
 use crate::reviewing::Judged;
 use crate::reviewing::judge_review;
 use crate::rows::span_rows;
 use crate::scoring::fill_scores;
 use log::Record;
-use log::put;
 use log::put_record;
 use sets::BadgeSet;
 use sets::widen;
@@ -55,11 +57,12 @@ fn append_part(
     query: BadgeSet,
     span: Span,
     score: u8,
+    form: Form,
     buffer: &mut [u8],
     count: usize,
 ) -> usize
-    requires { ⌜ SpanOfDay (day .badges) (day .ticks) (now words) (span .first) (span .last) × Review (day .badges) (members (day .review)) × (score ≡ scoreOn (day .badges) (now words) (members (day .review)) (members query) (span .first) (span .last)) × (13 + 13 * count + 13 ≤ length (now buffer)) ⌝ }
-    ensures { λ r. ⌜ AppendsCores (ascii "PT") 13 (partOn (day .badges) (now (words .entry)) (members (day .review)) (members query) (span .first) (span .last) ∷ []) count r (now (buffer .entry)) (now (buffer .exit)) ⌝ }
+    requires { ⌜ SpanOfDay (day .badges) (day .ticks) (now words) (span .first) (span .last) × Review (day .badges) (members (day .review)) × (score ≡ scoreOn (day .badges) (now words) (members (day .review)) (members query) (span .first) (span .last)) × (form .width ≤ 16) × (coreBytes (form .width) + coreBytes (form .width) * count + coreBytes (form .width) ≤ length (now buffer)) ⌝ }
+    ensures { λ r. ⌜ AppendsCores (form .part) (form .width) (coreBytes (form .width)) (partOn (day .badges) (now (words .entry)) (members (day .review)) (members query) (span .first) (span .last) ∷ []) count r (now (buffer .entry)) (now (buffer .exit)) ⌝ }
 {
     let part = Shown {
         order: score,
@@ -67,7 +70,8 @@ fn append_part(
         last: span.last as u8,
         members: part_members(words, day, query, span, score),
     };
-    append_record(buffer, 13, count, b'P', b'T', part)
+    let mark = form.part;
+    append_record(buffer, 5 + form.width, count, mark, form.width, part)
 }
 
 // Encodes the plan of a day, cut at the given ends, in a buffer that holds it. The scores are those of all runs.
@@ -89,7 +93,10 @@ fn encode_plan(
         last: parts as u8,
         members: query,
     };
-    put(buffer, 0, &record_bytes(b'P', b'H', header));
+    let form = form_of(day.badges);
+    let mark = form.plan;
+    put_core(buffer, 0, mark, form.width, header);
+    let record = 5 + form.width;
     let mut first: usize = 0;
     let mut count: usize = 0;
     for i in 0..parts {
@@ -101,6 +108,7 @@ fn encode_plan(
             query,
             Span { first, last },
             score,
+            form,
             buffer,
             count,
         );
@@ -109,7 +117,7 @@ fn encode_plan(
     }
     put_record(
         buffer,
-        13 + 13 * count,
+        record + record * count,
         Record::End {
             count: count as u32,
         },
@@ -143,7 +151,8 @@ fn plan_day(
     if ticks < parts {
         return Written::Refused(Refusal::InvalidParts);
     }
-    let size = 19 + 13 * parts;
+    let record = 5 + set_bytes(badges);
+    let size = 6 + record + record * parts;
     if buffer.len() < size {
         return Written::Refused(Refusal::Log(log::Refusal::BufferTooShort));
     }

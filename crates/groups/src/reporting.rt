@@ -12,28 +12,31 @@ ghost use Rattle.groups.specs.Calls.{reportOf};
 ghost use Rattle.groups.specs.GroupReports.{Reported};
 use crate::answer::Written;
 use crate::day::Day;
+use crate::form::set_bytes;
 use crate::keeping::find_cores;
 use crate::refusal::Refusal;
 use crate::reviewing::Judged;
 use crate::reviewing::judge_review;
 use crate::writing::write_report;
 use sets::BadgeSet;
+use sets::SET_WORDS;
 use thresholds::Thresholds;
 
 // Puts a report into the buffer that is lent: judged by 9. The cores are found and kept, and the records of their circles counted, before the buffer is
-// touched; then the records are written straight into it. The memory has two words for a core on each of 4,656 spans. What they hold first does not
+// touched; then the records are written straight into it. There is room for a pack and a set for a core on each of 4,656 spans. What they hold first does not
 // matter: ones are put there by wide stores, where zeros would be by a call that counts a step for each byte.
 fn report_groups(words: &[u64], day: Day, least: Thresholds, buffer: &mut [u8]) -> Written
     requires { ⌜ LentDay (day .badges) (day .ticks) (now words) × Review (day .badges) (members (day .review)) × (1 ≤ least .members) ⌝ }
     ensures { λ r. ⌜ DeliversReport (day .badges) (day .ticks) (now (words .entry)) (members (day .review)) least (writtenOutcome r) (now (buffer .entry)) (now (buffer .exit)) ⌝ }
 {
-    let mut memory = [1u64; 9312];
-    let tally = find_cores(words, day, least, &mut memory);
-    let size = 10 + 13 * tally.records;
+    let mut packs = [1u32; 4656];
+    let mut memory = [1u64; 4656 * SET_WORDS];
+    let tally = find_cores(words, day, least, &mut packs, &mut memory);
+    let size = 10 + (5 + set_bytes(day.badges)) * tally.records;
     if buffer.len() < size {
         return Written::Refused(Refusal::Log(log::Refusal::BufferTooShort));
     }
-    write_report(words, day, least, &memory, tally.cores, buffer);
+    write_report(words, day, least, &packs, &memory, tally.cores, buffer);
     Written::Bytes(size)
 }
 

@@ -10,6 +10,7 @@ ghost use Rattle.groups.specs.Scoring.{LinePlaces, LinePut, Scores};
 use crate::day::Day;
 use crate::lines::find_line;
 use sets::BadgeSet;
+use sets::SET_WORDS;
 
 // Puts the scores of the runs that start with a tick into its row of a table.
 fn put_line(orders: &[u8], first: usize, ticks: usize, scores: &mut [u8])
@@ -28,7 +29,7 @@ pub(crate) fn fill_scores(words: &[u64], day: Day, query: BadgeSet, scores: &mut
     ensures { λ _. ⌜ Scores (day .badges) (day .ticks) (now (words .entry)) (members (day .review)) (members query) (day .ticks) (now (scores .exit)) ⌝ }
 {
     let mut orders = [0u8; 97];
-    let mut members = [0u64; 96];
+    let mut members = [0u64; 96 * SET_WORDS];
     let mut circles = [0u8; 96];
     let mut large = [0u8; 96];
     for first in 0..day.ticks {

@@ -1,5 +1,7 @@
 // A report, written from the cores that were found.
-ghost use Rattle.sets.specs.Ascii.{ascii};
+ghost use mathlib.Core.Path.{_≡_};
+ghost use mathlib.Core.List.{_∷_, [], _++_};
+ghost use Prim.Native.Nat.{_<_};
 ghost use Rattle.sets.specs.Members.{members};
 ghost use Rattle.spans.specs.CircleRecords.{circlesOf};
 ghost use Rattle.groups.specs.Appending.{coreOf, AppendsCores, largeRecords, RowsOf, CoreToSplit, ReportCores, EncodesReport};
@@ -7,6 +9,8 @@ use crate::circling::append_circles;
 use crate::day::Day;
 use crate::day::Span;
 use crate::encoding::append_record;
+use crate::form::Form;
+use crate::form::form_of;
 use crate::keeping::Kept;
 use crate::keeping::kept_core;
 use crate::rows::first_rows;
@@ -14,6 +18,7 @@ use crate::rows::follow;
 use log::Record;
 use log::put;
 use log::put_record;
+use sets::ROW_WORDS;
 use sets::widen;
 use thresholds::Thresholds;
 
@@ -29,21 +34,23 @@ struct Walked {
 fn append_core(
     words: &[u64],
     day: Day,
-    rows: &mut [u64; 64],
+    rows: &mut [u64; ROW_WORDS],
     at: Span,
     core: Kept,
     enough: usize,
+    form: Form,
     buffer: &mut [u8],
     count: usize,
 ) -> Walked
-    requires { ⌜ RowsOf (day .badges) (day .ticks) (now words) (at .first) (at .last) (now rows) × CoreToSplit (day .badges) (day .ticks) (now words) enough (coreOf (core .shown)) (core .circles) count (now buffer) ⌝ }
-    ensures appended { λ r. ⌜ AppendsCores (ascii "GR") 4 (largeRecords (coreOf (core .shown)) enough (circlesOf (day .badges) (now (words .entry)) (coreOf (core .shown)))) count (r .count) (now (buffer .entry)) (now (buffer .exit)) ⌝ }
+    requires { ⌜ RowsOf (day .badges) (day .ticks) (now words) (at .first) (at .last) (now rows) × CoreToSplit (day .badges) (day .ticks) (now words) enough (coreOf (core .shown)) (core .circles) (form .width) count (now buffer) ⌝ }
+    ensures appended { λ r. ⌜ AppendsCores (form .group) (form .width) 4 (largeRecords (coreOf (core .shown)) enough (circlesOf (day .badges) (now (words .entry)) (coreOf (core .shown)))) count (r .count) (now (buffer .entry)) (now (buffer .exit)) ⌝ }
     ensures rows { λ r. ⌜ RowsOf (day .badges) (day .ticks) (now (words .entry)) (r .first) (r .last) (now (rows .exit)) ⌝ }
 {
     let shown = core.shown;
     if core.circles == 1 {
+        let mark = form.group;
         return Walked {
-            count: append_record(buffer, 4, count, b'G', b'R', shown),
+            count: append_record(buffer, 4, count, mark, form.width, shown),
             first: at.first,
             last: at.last,
         };
@@ -52,10 +59,18 @@ fn append_core(
     let last = widen(shown.last);
     follow(rows, words, day, at, Span { first, last });
     Walked {
-        count: append_circles(buffer, count, rows, shown, enough),
+        count: append_circles(buffer, form, count, rows, shown, enough),
         first,
         last,
     }
+}
+
+// The header of a report: its mark, n and T.
+fn header_bytes(mark: [u8; 2], day: Day) -> [u8; 4]
+    requires { ⌜ (day .badges < 256) × (day .ticks < 256) ⌝ }
+    ensures { λ r. ⌜ r ≡ mark ++ (day .badges ∷ day .ticks ∷ []) ⌝ }
+{
+    [mark[0], mark[1], day.badges as u8, day.ticks as u8]
 }
 
 // Writes the report of a day, from the cores that are kept in memory, into a buffer that holds it.
@@ -63,22 +78,24 @@ pub(crate) fn write_report(
     words: &[u64],
     day: Day,
     least: Thresholds,
+    packs: &[u32],
     memory: &[u64],
     cores: usize,
     buffer: &mut [u8],
 )
-    requires { ⌜ ReportCores (day .badges) (day .ticks) (now words) (members (day .review)) least cores (now memory) (now buffer) ⌝ }
+    requires { ⌜ ReportCores (day .badges) (day .ticks) (now words) (members (day .review)) least cores (now packs) (now memory) (now buffer) ⌝ }
     ensures { λ _. ⌜ EncodesReport (day .badges) (day .ticks) (now (words .entry)) (members (day .review)) least (now (buffer .entry)) (now (buffer .exit)) ⌝ }
 {
-    let header = [b'R', b'H', day.badges as u8, day.ticks as u8];
-    put(buffer, 0, &header);
-    let mut rows = [0u64; 64];
+    let form = form_of(day.badges);
+    let mark = form.report;
+    put(buffer, 0, &header_bytes(mark, day));
+    let mut rows = [0u64; ROW_WORDS];
     first_rows(&mut rows, words, day, 0);
     let mut first: usize = 0;
     let mut last: usize = 0;
     let mut count: usize = 0;
     for i in 0..cores {
-        let core = kept_core(memory, i);
+        let core = kept_core(packs, memory, i);
         let walked = append_core(
             words,
             day,
@@ -86,6 +103,7 @@ pub(crate) fn write_report(
             Span { first, last },
             core,
             least.members,
+            form,
             buffer,
             count,
         );
@@ -95,7 +113,7 @@ pub(crate) fn write_report(
     }
     put_record(
         buffer,
-        4 + 13 * count,
+        4 + (5 + form.width) * count,
         Record::End {
             count: count as u32,
         },

@@ -1,30 +1,29 @@
 -- Laws of settling at rising orders, each from what the last left.
 use mathlib.Core.Path.{_≡_, refl, sym, ap, _∙_}
 use mathlib.Core.Bool.{true, false}
-use mathlib.Core.List.{List}
 use mathlib.Core.Logic.{_⊎_, inl, inr, by-cases}
-use Prim.Native.Nat.{ℕ, _+_, _*_, _^_, _≤_, _<_, min, max}
+use Prim.Native.Nat.{ℕ, _+_, _^_, _≤_, _<_, min, max}
 use native.Mathlib.Nat.{le-refl, le-of-lt}
 use native.Mathlib.Decide.{decLe, decLt}
 use native.Mathlib.Omega.{arith}
 use lib.Dec.{ltb}
-use lib.ListN.{length}
 use borrow.Author.Tests.{ltb-true, lt-ltb}
 use Rattle.sets.specs.Bools.{_and_}
-use Rattle.sets.specs.Sets.{bit, In, Sub, isSub}
+use Rattle.sets.specs.Sets.{In, Sub, isSub}
 use Rattle.sets.specs.Members.{capacity}
 use Rattle.sets.proofs.Bools.{clash, and-in, and-left}
-use Rattle.sets.proofs.Sets.{in-lt, sub-refl, sub-trans, sub-pos, sub-antisym, is-sub-in}
+use Rattle.sets.proofs.Sets.{sub-lt, sub-refl, sub-trans, sub-pos, sub-antisym, is-sub-in}
 use Rattle.sets.proofs.Size.{size-le}
-use Rattle.planes.specs.Lanes.{half, Plus, LargestLane}
+use Rattle.planes.specs.Lanes.{half}
 use Rattle.cores.specs.Cores.{core}
 use Rattle.cores.specs.Orders.{contains, score, highestOrder, highestMembers, HighestFound}
 use Rattle.innermost.specs.Columns.{transposed, inDegree}
-use Rattle.innermost.specs.Counting.{Counting, Settled, Climbed, Climbing}
+use Rattle.innermost.specs.Degrees.{Counting, Raised, LargestOf}
+use Rattle.innermost.specs.Rising.{Settled, Climbed, Climbing}
 use Rattle.cores.proofs.Cores.{core-sub, core-largest, core-again}
 use Rattle.cores.proofs.Orders.{contains-of, score-of, score-in, score-le, highest-yes, highest-no}
 use Rattle.innermost.proofs.Columns.{degree-transposed, core-transposed}
-use Rattle.innermost.proofs.CountedLanes.{counting-raised}
+use Rattle.innermost.proofs.CountedDegrees.{counting-raised}
 
 -- if the core of the next order contains the query, it is the highest found
 pub climb-more : {rows : ℕ → ℕ} {base query above most order t s : ℕ} → Climbed rows base query above most order t → order < most
@@ -62,7 +61,7 @@ module _ {rows : ℕ → ℕ} {base query above most order s : ℕ} (c : Climbed
           x .2 ∙ ap (core rows base) f ∙ sym (highest-yes rows base query above most (omega (arith, x .0)))
 
 -- at first no core is found, and the whole base is left
-pub climbing-start : {rows : ℕ → ℕ} {base : ℕ} (query : ℕ) {above stop : ℕ} {ps : List ℕ} → above ≤ stop → Counting rows base (above + 1) ps → Climbing rows base query above stop above 0 base ps
+pub climbing-start : {rows : ℕ → ℕ} {base : ℕ} (query : ℕ) {above stop : ℕ} {a : ℕ → ℕ} → above ≤ stop → Counting rows base (above + 1) a → Climbing rows base query above stop above 0 base a
 climbing-start {base = base} query l c = record {
   within = sub-refl base;
   same = λ j m. refl;
@@ -71,8 +70,8 @@ climbing-start {base = base} query l c = record {
 }
 
 -- Where no member of the base has an in-degree below an order, the base is the core of this order: the first to be tried is the next.
-pub climbing-jump : {rows : ℕ → ℕ} {base query above stop order : ℕ} {ps : List ℕ} → ((v : ℕ) → In base v → order ≤ inDegree rows base v) → above < order → order ≤ stop
-    → (ltb 0 base and isSub query base) ≡ true → Counting rows base (order + 1) ps → Climbing rows base query above stop order base base ps
+pub climbing-jump : {rows : ℕ → ℕ} {base query above stop order : ℕ} {a : ℕ → ℕ} → ((v : ℕ) → In base v → order ≤ inDegree rows base v) → above < order → order ≤ stop
+    → (ltb 0 base and isSub query base) ≡ true → Counting rows base (order + 1) a → Climbing rows base query above stop order base base a
 unfolding contains
 climbing-jump {rows} {base} {order = order} h a b t c = record {
   within = sub-refl base;
@@ -87,15 +86,15 @@ climbing-jump {rows} {base} {order = order} h a b t c = record {
         (core-sub (transposed rows base) base order)
 
 -- The least in-degree of a set, by the largest number in its lanes.
-module _ {rows : ℕ → ℕ} {s k m : ℕ} {ps : List ℕ} (w : s < 2 ^ capacity) (c : Counting rows s k ps) (g : LargestLane s ps m) where
+module _ {rows : ℕ → ℕ} {s k m : ℕ} {a : ℕ → ℕ} (c : Counting rows s k a) (g : LargestOf s a m) where
   pub lanes-small : 0 < s → m < k + half
-  lanes-small p = let x = g .attained p in omega (arith, x .2, c .each (x .0) (in-lt capacity s (x .0) w (x .1)))
+  lanes-small p = let x = g .attained p in omega (arith, x .2, c .each (x .0) (x .1))
 
   pub lanes-least : (d : ℕ) → d + m + 1 ≤ k + half → (v : ℕ) → In s v → d ≤ inDegree rows s v
-  lanes-least d e v i = omega (arith, g .each v i, c .each v (in-lt capacity s v w i))
+  lanes-least d e v i = omega (arith, g .each v i, c .each v i)
 
-module _ {rows : ℕ → ℕ} {base query above stop order found left : ℕ} {ps : List ℕ} (h : Climbing rows base query above stop order found left ps)
-    {next : ℕ} {qs : List ℕ} (k : ℕ) (e : k ≡ order + 1) (s : Settled rows left query k next qs) where
+module _ {rows : ℕ → ℕ} {base query above stop order found left : ℕ} {a : ℕ → ℕ} (h : Climbing rows base query above stop order found left a)
+    {next : ℕ} {b : ℕ → ℕ} (k : ℕ) (e : k ≡ order + 1) (s : Settled rows left query k next b) where
   -- the test of what is left is that of the core of the next order
   pub climbing-test : (ltb 0 next and isSub query next) ≡ contains (transposed rows base) base query (order + 1)
   unfolding contains
@@ -112,15 +111,15 @@ module _ {rows : ℕ → ℕ} {base query above stop order found left : ℕ} {ps
     next-within = rw next-core (core-sub (transposed rows base) base (order + 1))
 
     -- if it passes, it is the highest core so far
-    pub climbing-more : {rs : List ℕ} → stop ≤ half → 2 ^ length qs ≡ 2 * half → Plus (bit 18446744073709551615) qs rs → Climbing rows base query above stop (order + 1) next next rs
-    climbing-more b f p = record {
+    pub climbing-more : {c : ℕ → ℕ} → base < 2 ^ capacity → stop ≤ half → Raised (λ v. 1) b c → Climbing rows base query above stop (order + 1) next next c
+    climbing-more w f p = record {
       within = next-within;
       same = λ j m. core-transposed rows base next j next-within ∙ ap (λ (x : ℕ). core (transposed rows base) x j) next-core ∙ core-again (transposed rows base) base (order + 1) j (omega arith);
-      counting = λ m. counting-raised (rw e at (s .counting some-left)) (omega arith) f p;
+      counting = λ m. counting-raised (sub-lt capacity next base next-within w) (rw e at (s .counting some-left)) (omega arith) p;
       climbed = climb-more (h .climbed) l (sym climbing-test ∙ t) next-core;
     }
 
-pub climbing-end : {rows : ℕ → ℕ} {base query above stop order found left : ℕ} {ps : List ℕ} → Climbing rows base query above stop order found left ps
+pub climbing-end : {rows : ℕ → ℕ} {base query above stop order found left : ℕ} {a : ℕ → ℕ} → Climbing rows base query above stop order found left a
     → (contains (transposed rows base) base query (order + 1) ≡ false) ⊎ (stop ≤ order) → HighestFound (transposed rows base) base query above stop order found
 climbing-end h e = record { order = climbed-order (h .climbed) e; members = climbed-members (h .climbed) e }
 

@@ -1,28 +1,40 @@
--- Laws of in-degrees counted in lanes: rows added eight at a time, members that are counted no longer, and the order raised.
+-- Laws of rows of the badges of a word that are added in lanes: one taken, eight or two at a time, and those of all badges.
 use mathlib.Core.Path.{_≡_, refl, ap, _∙_}
-use mathlib.Core.Bool.{true}
 use mathlib.Core.List.{List}
-use Prim.Native.Nat.{ℕ, _+_, _*_, _^_, _≤_, _<_, min}
+use Prim.Native.Nat.{ℕ, _+_, _-_, _*_, _^_, _≤_, _<_}
 use native.Mathlib.Nat.{le-refl, le-of-lt}
 use native.Mathlib.Omega.{arith}
-use lib.ListN.{length}
-use Rattle.sets.specs.Sets.{bit, In, Sub, isSub, difference, only, full}
-use Rattle.sets.specs.Members.{capacity}
-use Rattle.sets.proofs.Sets.{in-lt, in-full, of-full, sub-antisym, is-sub-of}
+use lib.Bits.{bitAnd}
+use lib.Count.{trailingZeros}
+use lib.ListN.{length, getD}
+use Rattle.sets.specs.Sets.{bit, In, difference, only, full}
+use Rattle.sets.specs.Words.{wordBits, setWords}
+use Rattle.sets.proofs.Sets.{in-full, of-full, full-suc}
 use Rattle.sets.proofs.Bits.{bit-none}
-use Rattle.sets.proofs.Size.{size-le, size-without}
-use Rattle.planes.specs.Lanes.{lane, half, Plus, Constant, Complement}
-use Rattle.planes.proofs.Lanes.{plus-sum, constant-each, every-in}
+use Rattle.sets.proofs.Size.{size-without}
+use Rattle.sets.proofs.Smallest.{smallest-trailing, smallest-member, without-smallest}
+use Rattle.planes.specs.Lanes.{lane, half, Plus}
+use Rattle.planes.proofs.Lanes.{plus-sum}
 use Rattle.innermost.specs.Columns.{inDegree}
-use Rattle.innermost.specs.Counting.{TakesRow, AddsSome, AddsTo, Counting}
-use Rattle.innermost.proofs.Columns.{in-degree-le, in-degree-split, in-degree-less, in-degree-none, in-degree-full-none, in-degree-full-eight}
+use Rattle.innermost.specs.Counting.{rowWord, TakesRow, AddsSome, AddsTo}
+use Rattle.innermost.proofs.Columns.{in-degree-split, in-degree-less, in-degree-none, in-degree-full-none, in-degree-full-eight}
 
 -- the smallest member's row is taken, or none where there is no member
-pub takes-none : (rows : ℕ → ℕ) (s : ℕ) → s ≡ 0 → TakesRow rows s 0 s
-takes-none rows s e = record { falls = λ p. absurd (omega arith); never-rises = le-refl _; each = λ v. omega (arith, bit-none v) }
+pub takes-none : (rows : ℕ → ℕ) {s : ℕ} → s ≡ 0 → TakesRow rows s 0 0
+takes-none rows e = rw e (record { falls = λ p. absurd (omega arith); never-rises = le-refl _; each = λ v. omega (arith, bit-none v) })
 
 pub takes-one : (rows : ℕ → ℕ) (s u : ℕ) {rest : ℕ} → In s u → rest ≡ difference s (only u) → TakesRow rows s (rows u) rest
 takes-one rows s u i e = rw e (record { falls = λ p. size-without s u i; never-rises = le-of-lt (size-without s u i); each = λ v. in-degree-less rows s u v i })
+
+-- the first badge of a word is the smallest, by its trailing zeros; the word at its place in the rows is taken
+pub first-badge : (word : ℕ) → word < 2 ^ wordBits → (word ≡ 0 → ⊥) → In word (trailingZeros wordBits word) × (trailingZeros wordBits word < wordBits)
+first-badge word w f = rw (smallest-trailing wordBits word) at (smallest-member wordBits word w f)
+
+pub takes-first : (rows : List ℕ) (word from side i : ℕ) → word < 2 ^ wordBits → (word ≡ 0 → ⊥) → i ≡ (from + trailingZeros wordBits word) * setWords + side
+    → TakesRow (rowWord rows from side) word (getD rows i 0) (bitAnd word (word - 1))
+takes-first rows word from side i w f e =
+    let r : bitAnd word (word - 1) ≡ difference word (only (trailingZeros wordBits word)) = rw (smallest-trailing wordBits word) at (without-smallest wordBits word w f) in
+    rw e (takes-one (rowWord rows from side) word (trailingZeros wordBits word) (first-badge word w f .0) r)
 
 -- eight rows are taken and added
 pub adds-eight : {rows : ℕ → ℕ} {s a b c d e f g h s1 s2 s3 s4 s5 s6 s7 s8 : ℕ} {ps qs : List ℕ}
@@ -56,31 +68,34 @@ adds-two t1 t2 room p = record {
       omega arith;
 }
 
--- The rows of all badges below m are added.
+-- The rows of the first m badges of a word are added.
 pub record Prefix (rows : ℕ → ℕ) (m : ℕ) (ps qs : List ℕ) : Type 0 where
-  pub each : (v : ℕ) → lane ps v + inDegree rows (full capacity) v < 2 * half → lane qs v ≡ lane ps v + inDegree rows (full m) v
+  pub each : (v : ℕ) → lane ps v + inDegree rows (full wordBits) v < 2 * half → lane qs v ≡ lane ps v + inDegree rows (full m) v
 
 pub prefix-start : (rows : ℕ → ℕ) (ps : List ℕ) → Prefix rows 0 ps ps
 prefix-start rows ps = record { each = λ v l. omega (arith, in-degree-full-none rows v) }
 
-pub prefix-more : {rows : ℕ → ℕ} {m : ℕ} {ps qs rs : List ℕ} → Prefix rows m ps qs → m + 8 ≤ capacity → 2 ^ length qs ≡ 2 * half
-    → Plus (λ (v : ℕ). bit (rows m) v + bit (rows (m + 1)) v + bit (rows (m + 2)) v + bit (rows (m + 3)) v + bit (rows (m + 4)) v + bit (rows (m + 5)) v + bit (rows (m + 6)) v + bit (rows (m + 7)) v) qs rs
+pub prefix-more : {rows : ℕ → ℕ} {m : ℕ} {ps qs rs : List ℕ} {a b c d e f g h : ℕ} → Prefix rows m ps qs → m + 8 ≤ wordBits → 2 ^ length qs ≡ 2 * half
+    → a ≡ rows m → b ≡ rows (m + 1) → c ≡ rows (m + 2) → d ≡ rows (m + 3) → e ≡ rows (m + 4) → f ≡ rows (m + 5) → g ≡ rows (m + 6) → h ≡ rows (m + 7)
+    → Plus (λ (v : ℕ). bit a v + bit b v + bit c v + bit d v + bit e v + bit f v + bit g v + bit h v) qs rs
     → Prefix rows (m + 8) ps rs
-prefix-more {rows} {m} h w room p = record {
+prefix-more {rows} {m} {qs = qs} {rs} i w room ea eb ec ed ee ef eg eh q = record {
   each = λ v l.
-      let was = h .each v l in
+      let p : Plus (λ (v : ℕ). bit (rows m) v + bit (rows (m + 1)) v + bit (rows (m + 2)) v + bit (rows (m + 3)) v + bit (rows (m + 4)) v + bit (rows (m + 5)) v + bit (rows (m + 6)) v + bit (rows (m + 7)) v) qs rs =
+      rw (ea, eb, ec, ed, ee, ef, eg, eh) at q in
+      let was = i .each v l in
       let more = in-degree-full-eight rows m v in
-      let most = in-degree-split rows (full capacity) (full (m + 8)) v (record { at = λ u i. in-full capacity u (omega (arith, of-full (m + 8) u i)) }) in
+      let most = in-degree-split rows (full wordBits) (full (m + 8)) v (record { at = λ u j. in-full wordBits u (omega (arith, of-full (m + 8) u j)) }) in
       let sum = plus-sum p v (omega arith) in
       omega arith;
 }
 
-pub prefix-end : {rows : ℕ → ℕ} {m : ℕ} {ps qs : List ℕ} → Prefix rows m ps qs → m ≡ capacity → 2 ^ length ps ≡ 2 * half → AddsTo (inDegree rows (full capacity)) ps qs
+pub prefix-end : {rows : ℕ → ℕ} {m : ℕ} {ps qs : List ℕ} → Prefix rows m ps qs → m ≡ wordBits → 2 ^ length ps ≡ 2 * half → AddsTo (inDegree rows (full wordBits)) ps qs
 prefix-end {rows} h e f = record { sum = λ v l. omega (arith, h .each v (omega arith), ap (λ (x : ℕ). inDegree rows (full x) v) e) }
 
--- a set that has all badges
-pub all-badges : {t s : ℕ} → t ≡ full (min 64 capacity) → s < 2 ^ capacity → isSub t s ≡ true → s ≡ full capacity
-all-badges {t} {s} e w f = let h = is-sub-of t s f in sub-antisym _ _ (record { at = λ u i. in-full capacity u (in-lt capacity s u w i) }) (rw e at h)
+-- a word that has all its badges
+pub every-badge : {word : ℕ} → word ≡ 18446744073709551615 → full wordBits ≡ word
+every-badge e = omega (arith, full-suc wordBits)
 
 -- Rows of members of s are added, but for those unseen.
 pub record Adding (rows : ℕ → ℕ) (s unseen : ℕ) (ps qs : List ℕ) : Type 0 where
@@ -94,37 +109,3 @@ adding-more h a = record { each = λ v l. let was = h .each v l in a .each v (om
 
 pub adding-end : {rows : ℕ → ℕ} {s unseen : ℕ} {ps qs : List ℕ} → Adding rows s unseen ps qs → unseen ≡ 0 → 2 ^ length ps ≡ 2 * half → AddsTo (inDegree rows s) ps qs
 adding-end {rows} h e f = record { sum = λ v l. omega (arith, h .each v (omega arith), ap (λ (x : ℕ). inDegree rows x v) e, in-degree-none rows v) }
-
--- The complement of the sums counts.
-pub counting-start : {rows : ℕ → ℕ} {s start k : ℕ} {ps qs rs : List ℕ} → s < 2 ^ capacity → start + k ≡ half → 1 ≤ k → 2 ^ length ps ≡ 2 * half → 2 ^ length qs ≡ 2 * half
-    → Constant start ps → AddsTo (inDegree rows s) ps qs → Complement qs rs → Counting rows s k rs
-counting-start {rows} {s} w e l f g c p n = record {
-  each = λ v m.
-      let few = in-degree-le rows s v in
-      let small = size-le capacity s w in
-      let one = constant-each c v m (omega arith) in
-      let two = p .sum v (omega arith) in
-      let three = n .sum v m in
-      omega arith;
-}
-
--- A part of s is counted no longer.
-pub counting-less : {rows : ℕ → ℕ} {s t k : ℕ} {ps qs : List ℕ} → Counting rows s k ps → k ≤ half → Sub t s → 2 ^ length ps ≡ 2 * half → AddsTo (inDegree rows t) ps qs
-    → Counting rows (difference s t) k qs
-counting-less {rows} {s} {t} h l b e p = record {
-  each = λ v m.
-      let was = h .each v m in
-      let part = in-degree-split rows s t v b in
-      let sum = p .sum v (omega arith) in
-      omega arith;
-}
-
--- The order rises by 1.
-pub counting-raised : {rows : ℕ → ℕ} {s k : ℕ} {ps qs : List ℕ} → Counting rows s k ps → k < half → 2 ^ length ps ≡ 2 * half → Plus (bit 18446744073709551615) ps qs → Counting rows s (k + 1) qs
-counting-raised h l e p = record {
-  each = λ v m.
-      let was = h .each v m in
-      let one = every-in v m in
-      let sum = plus-sum p v (omega arith) in
-      omega arith;
-}

@@ -2,5 +2,6 @@
 -- orders. Other crates cite Columns.
 pub mod Columns
 pub mod CountedLanes
+pub mod CountedDegrees
 pub mod Settling
 pub mod Climbing

@@ -1,50 +1,69 @@
-// In-degrees in a set of badges, one in each lane of a word's planes. For symmetric rows they are the degrees.
-ghost use Prim.Native.Nat.{_≤_};
-ghost use Rattle.sets.specs.Members.{members, capacity};
+// In-degrees in a set of badges: those of the badges of one word of a set are in the lanes of some planes. For symmetric rows they are the degrees.
+//
+// Rows are added word by word: the words of the rows of the badges of one word, of which the first is `from`, and of these words those of one `side`, that is
+// of one place in each row. So lane v of the planes of a side counts badge v of that word of a set.
+ghost use mathlib.Core.Path.{_≡_};
+ghost use Prim.Native.Nat.{_+_, _≤_, _<_};
+ghost use lib.ListN.{length};
+ghost use Rattle.sets.specs.Members.{members, capacity, rowWords};
+ghost use Rattle.sets.specs.Words.{wordBits, setWords};
 ghost use Rattle.sets.specs.Sets.{full};
 ghost use Rattle.planes.specs.Lanes.{planesOf, half};
 ghost use Rattle.cores.specs.Rows.{graph};
 ghost use Rattle.innermost.specs.Columns.{inDegree};
-ghost use Rattle.innermost.specs.Counting.{TakesRow, AddsSome, AddsTo, Counting};
+ghost use Rattle.innermost.specs.Counting.{rowWord, TakesRow, AddsSome, AddsTo, CountingSide};
+ghost use Rattle.innermost.specs.Degrees.{numberOf, Counting, Raised, Reached, LargestOf};
 use planes::Planes;
 use sets::BadgeSet;
+use sets::ROW_WORDS;
+use sets::SET_WORDS;
+use sets::WORD_BITS;
 
-// One row of a set's members, and the other members.
+// The in-degrees of the badges of a set's word in the lanes of its planes.
+pub(crate) struct Degrees {
+    pub(crate) low: Planes,
+}
+
+// A word of the row of one of a word's badges, and its other badges.
 struct Taken {
     row: u64,
-    rest: BadgeSet,
+    rest: u64,
 }
 
-// Sums in lanes, and the members whose rows are not in them yet.
+// Sums in lanes, and the badges of a word whose rows are not in them yet.
 struct Summed {
     planes: Planes,
-    unseen: BadgeSet,
+    unseen: u64,
 }
 
-// Takes the row of the smallest member of a set; an empty row where there is none.
-fn take(rows: &[u64; 64], s: BadgeSet) -> Taken
-    ensures { λ r. ⌜ TakesRow (graph (now (rows .entry))) (members s) (r .row) (members (r .rest)) ⌝ }
+// Takes a word of the row of the smallest badge of a word; an empty one where it has none.
+fn take(rows: &[u64], word: u64, from: usize, side: usize) -> Taken
+    requires { ⌜ (length (now rows) ≡ rowWords) × (from + wordBits ≤ capacity) × (side < setWords) ⌝ }
+    ensures { λ r. ⌜ TakesRow (rowWord (now (rows .entry)) from side) word (r .row) (r .rest) ⌝ }
 {
-    if s.is_empty() {
-        return Taken { row: 0, rest: s };
+    if word == 0 {
+        return Taken { row: 0, rest: 0 };
     }
-    let u = s.smallest();
-    let rest = s.rest();
-    Taken { row: rows[u], rest }
+    let u = from + u64::trailing_zeros(word) as usize;
+    Taken {
+        row: rows[SET_WORDS * u + side],
+        rest: word & (word - 1),
+    }
 }
 
-// Adds the rows of eight members of a set, or of all where there are fewer.
-fn add_eight_rows(p: Planes, rows: &[u64; 64], s: BadgeSet) -> Summed
-    ensures { λ r. ⌜ AddsSome (graph (now (rows .entry))) (members s) (members (r .unseen)) (planesOf p) (planesOf (r .planes)) ⌝ }
+// Adds the rows of eight badges of a word, or of all where there are fewer.
+fn add_eight_rows(p: Planes, rows: &[u64], word: u64, from: usize, side: usize) -> Summed
+    requires { ⌜ (length (now rows) ≡ rowWords) × (from + wordBits ≤ capacity) × (side < setWords) ⌝ }
+    ensures { λ r. ⌜ AddsSome (rowWord (now (rows .entry)) from side) word (r .unseen) (planesOf p) (planesOf (r .planes)) ⌝ }
 {
-    let a = take(rows, s);
-    let b = take(rows, a.rest);
-    let c = take(rows, b.rest);
-    let d = take(rows, c.rest);
-    let e = take(rows, d.rest);
-    let f = take(rows, e.rest);
-    let g = take(rows, f.rest);
-    let h = take(rows, g.rest);
+    let a = take(rows, word, from, side);
+    let b = take(rows, a.rest, from, side);
+    let c = take(rows, b.rest, from, side);
+    let d = take(rows, c.rest, from, side);
+    let e = take(rows, d.rest, from, side);
+    let f = take(rows, e.rest, from, side);
+    let g = take(rows, f.rest, from, side);
+    let h = take(rows, g.rest, from, side);
     let unseen = h.rest;
     Summed {
         planes: planes::add_eight(p, a.row, b.row, c.row, d.row, e.row, f.row, g.row, h.row),
@@ -52,72 +71,132 @@ fn add_eight_rows(p: Planes, rows: &[u64; 64], s: BadgeSet) -> Summed
     }
 }
 
-// Adds the rows of all badges.
-fn add_all(p: Planes, rows: &[u64; 64]) -> Planes
-    ensures { λ r. ⌜ AddsTo (inDegree (graph (now (rows .entry))) (full capacity)) (planesOf p) (planesOf r) ⌝ }
+// Adds the rows of all badges of a word.
+fn add_all(p: Planes, rows: &[u64], from: usize, side: usize) -> Planes
+    requires { ⌜ (length (now rows) ≡ rowWords) × (from + wordBits ≤ capacity) × (side < setWords) ⌝ }
+    ensures { λ r. ⌜ AddsTo (inDegree (rowWord (now (rows .entry)) from side) (full wordBits)) (planesOf p) (planesOf r) ⌝ }
 {
     let mut out = p;
-    let mut at: usize = 0;
-    while at < 64 {
+    let mut u: usize = 0;
+    while u < WORD_BITS {
+        let at = SET_WORDS * (from + u) + side;
         let next = planes::add_eight(
             out,
             rows[at],
-            rows[at + 1],
-            rows[at + 2],
-            rows[at + 3],
-            rows[at + 4],
-            rows[at + 5],
-            rows[at + 6],
-            rows[at + 7],
+            rows[at + SET_WORDS],
+            rows[at + 2 * SET_WORDS],
+            rows[at + 3 * SET_WORDS],
+            rows[at + 4 * SET_WORDS],
+            rows[at + 5 * SET_WORDS],
+            rows[at + 6 * SET_WORDS],
+            rows[at + 7 * SET_WORDS],
         );
         out = next;
-        at += 8;
+        u += 8;
     }
     out
 }
 
-// Adds the rows of the members of a set, eight at a time.
-fn add_by_eight(p: Planes, rows: &[u64; 64], s: BadgeSet) -> Planes
-    ensures { λ r. ⌜ AddsTo (inDegree (graph (now (rows .entry))) (members s)) (planesOf p) (planesOf r) ⌝ }
+// Adds the rows of the badges of a word, eight at a time.
+fn add_by_eight(p: Planes, rows: &[u64], word: u64, from: usize, side: usize) -> Planes
+    requires { ⌜ (length (now rows) ≡ rowWords) × (from + wordBits ≤ capacity) × (side < setWords) ⌝ }
+    ensures { λ r. ⌜ AddsTo (inDegree (rowWord (now (rows .entry)) from side) word) (planesOf p) (planesOf r) ⌝ }
 {
     let mut out = p;
-    let mut unseen = s;
-    while !unseen.is_empty() {
-        let next = add_eight_rows(out, rows, unseen);
+    let mut unseen = word;
+    while unseen != 0 {
+        let next = add_eight_rows(out, rows, unseen, from, side);
         let planes = next.planes;
         out = planes;
-        let rest = next.unseen;
-        unseen = rest;
+        unseen = next.unseen;
     }
     out
 }
 
-// The in-degrees in a set, counted at order k: each lane has k, less the in-degree, above the largest number that is below half of what there is
-// room for. So the last plane has the badges whose in-degree is below k.
-pub(crate) fn count(rows: &[u64; 64], s: BadgeSet, k: usize) -> Planes
-    requires { ⌜ (1 ≤ k) × (k ≤ half) ⌝ }
-    ensures { λ r. ⌜ Counting (graph (now (rows .entry))) (members s) k (planesOf r) ⌝ }
+// Adds the rows of the badges of a word.
+fn add_word(p: Planes, rows: &[u64], word: u64, from: usize, side: usize) -> Planes
+    requires { ⌜ (length (now rows) ≡ rowWords) × (from + wordBits ≤ capacity) × (side < setWords) ⌝ }
+    ensures { λ r. ⌜ AddsTo (inDegree (rowWord (now (rows .entry)) from side) word) (planesOf p) (planesOf r) ⌝ }
+{
+    if word == planes::EVERY {
+        return add_all(p, rows, from, side);
+    }
+    add_by_eight(p, rows, word, from, side)
+}
+
+// The in-degrees in a set of the badges of one side, counted at order k: each lane has k, less the in-degree, above the largest number that is below half of
+// what there is room for. So the last plane has the badges whose in-degree is below k.
+fn count_side(rows: &[u64], s: BadgeSet, k: usize, side: usize) -> Planes
+    requires { ⌜ (length (now rows) ≡ rowWords) × (1 ≤ k) × (k ≤ half) × (side < setWords) ⌝ }
+    ensures { λ r. ⌜ CountingSide (graph (now (rows .entry))) (members s) k side (planesOf r) ⌝ }
 {
     let start = planes::constant((planes::HALF - k) as u64);
-    if BadgeSet::full(64).is_subset(s) {
-        return planes::complement(add_all(start, rows));
-    }
-    planes::complement(add_by_eight(start, rows, s))
+    planes::complement(add_word(start, rows, s.to_word(), 0, side))
 }
 
-// Counts the members of a set no longer: each of their rows is added, two at a time, since the in-degree of each badge in it falls by 1.
-pub(crate) fn discount(p: Planes, rows: &[u64; 64], s: BadgeSet) -> Planes
-    ensures { λ r. ⌜ AddsTo (inDegree (graph (now (rows .entry))) (members s)) (planesOf p) (planesOf r) ⌝ }
+// The in-degrees in a set, counted at order k. The rows come as an array: of a slice made from it, it is known how many words it has.
+pub(crate) fn count(rows: &[u64; ROW_WORDS], s: BadgeSet, k: usize) -> Degrees
+    requires { ⌜ (1 ≤ k) × (k ≤ half) ⌝ }
+    ensures { λ r. ⌜ Counting (graph (now (rows .entry))) (members s) k (numberOf r) ⌝ }
+{
+    Degrees {
+        low: count_side(rows, s, k, 0),
+    }
+}
+
+// Counts the badges of a word no longer: each of their rows is added, two at a time, since the in-degree of each badge in it falls by 1.
+fn discount_word(p: Planes, rows: &[u64], word: u64, from: usize, side: usize) -> Planes
+    requires { ⌜ (length (now rows) ≡ rowWords) × (from + wordBits ≤ capacity) × (side < setWords) ⌝ }
+    ensures { λ r. ⌜ AddsTo (inDegree (rowWord (now (rows .entry)) from side) word) (planesOf p) (planesOf r) ⌝ }
 {
     let mut out = p;
-    let mut unseen = s;
-    while !unseen.is_empty() {
-        let a = take(rows, unseen);
-        let b = take(rows, a.rest);
+    let mut unseen = word;
+    while unseen != 0 {
+        let a = take(rows, unseen, from, side);
+        let b = take(rows, a.rest, from, side);
         let next = planes::add_two(out, a.row, b.row);
         out = next;
-        let rest = b.rest;
-        unseen = rest;
+        unseen = b.rest;
     }
     out
+}
+
+// Counts the members of a set no longer, by the words of the rows.
+fn discount_set(d: Degrees, rows: &[u64], s: BadgeSet) -> Degrees
+    requires { ⌜ length (now rows) ≡ rowWords ⌝ }
+    ensures { λ r. ⌜ Raised (inDegree (graph (now (rows .entry))) (members s)) (numberOf d) (numberOf r) ⌝ }
+{
+    Degrees {
+        low: discount_word(d.low, rows, s.to_word(), 0, 0),
+    }
+}
+
+// Counts the members of a set no longer.
+pub(crate) fn discount(d: Degrees, rows: &[u64; ROW_WORDS], s: BadgeSet) -> Degrees
+    ensures { λ r. ⌜ Raised (inDegree (graph (now (rows .entry))) (members s)) (numberOf d) (numberOf r) ⌝ }
+{
+    discount_set(d, rows, s)
+}
+
+// Counts all at the next order.
+pub(crate) fn raise(d: Degrees) -> Degrees
+    ensures { λ r. ⌜ Raised (λ v. 1) (numberOf d) (numberOf r) ⌝ }
+{
+    Degrees {
+        low: planes::add(d.low, planes::EVERY),
+    }
+}
+
+// The badges that are counted below the order.
+pub(crate) fn below(d: Degrees) -> BadgeSet
+    ensures { λ r. ⌜ Reached half (numberOf d) (members r) ⌝ }
+{
+    BadgeSet::from_word(d.low.p7)
+}
+
+// The largest number in the lanes of a set's badges.
+pub(crate) fn largest(d: Degrees, s: BadgeSet) -> usize
+    ensures { λ r. ⌜ LargestOf (members s) (numberOf d) r ⌝ }
+{
+    planes::largest(d.low, s.to_word())
 }

@@ -23,7 +23,7 @@ use Rattle.spans.specs.SpanCores.{SpanCore, Mem}
 use Rattle.spans.specs.Reports.{groupsOf}
 use Rattle.spans.specs.KeptGroups.{kept}
 use Rattle.spans.specs.CircleRecords.{withMembers, circlesOf, shownRecords}
-use Rattle.spans.specs.Encoding.{encodeCore, encodeCores, reportBytes, reportRecords, decodeCore, decodeCores, recordsAfter}
+use Rattle.spans.specs.Encoding.{formOf, encodeCore, encodeCores, reportBytes, reportRecords, decodeCore, decodeCores, recordsAfter}
 use Rattle.spans.specs.GroupStatement.{Reportable, GroupStatement, ReportAsked}
 use Rattle.spans.specs.CoreStatement.{Has}
 use Rattle.spans.proofs.Reviews.{all-reviewed}
@@ -75,7 +75,7 @@ module _ {n T : ℕ} {ws : List ℕ} {base : ℕ} {least : Thresholds} (xs : Lis
 
 -- all that is computed with
 circling : ℕ
-unfolding computing apartWords leavingWords crossingWords wholeCores firstCircles oneCircleEach enoughInAll recordsIn tickRecords byOneTick circlesAt byOneOf isMaximalCircle maximalCircles circleByCircle littleEndian fromLittleEndian fieldsOf encode encodeCore encodeCores reportBytes decodeCore decodeCores recordsAfter
+unfolding computing apartWords leavingWords crossingWords wholeCores firstCircles oneCircleEach enoughInAll recordsIn tickRecords byOneTick circlesAt byOneOf isMaximalCircle maximalCircles circleByCircle littleEndian fromLittleEndian fieldsOf encode formOf encodeCore encodeCores reportBytes decodeCore decodeCores recordsAfter
 circling = 0
 
 apart-lent : LentDay 6 1 apartWords

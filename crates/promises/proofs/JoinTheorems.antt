@@ -38,7 +38,7 @@ use Rattle.trace.specs.Tracing.{Traces}
 use Rattle.spans.specs.Spans.{SpanOfDay}
 use Rattle.spans.specs.Reviews.{Review}
 use Rattle.spans.specs.SpanCores.{SpanCore}
-use Rattle.spans.specs.Encoding.{reportBytes}
+use Rattle.spans.specs.Encoding.{formOf, recordBytes, reportBytes}
 use Rattle.groups.specs.GroupReports.{ReportsGroups}
 use Rattle.groups.specs.ShiftPlans.{PlansShifts}
 use Rattle.receivers.specs.Joining.{sum, Joinable, joinable, quorum, joinedDay, Join, joinOf}
@@ -275,8 +275,8 @@ module _ (logs lengths : List ℕ) (q n T : ℕ) (words work : List ℕ) (e : jo
   joined-report call groups p base least buffer v r h =
       ap (λ (y : Delivered). y .answer) (p .succeeds n T _ base least buffer (record { lent = joined-lent-day; reviewed = v; range = r }) h)
 
-  pub joined-plan : (call : ℕ → ℕ → List ℕ → ℕ → ℕ → ℕ → List ℕ → Delivered) → PlansShifts call → (base query h : ℕ) (buffer : List ℕ) → Review n base → Sub query base → 1 ≤ h → h ≤ T → 19 + 13 * h ≤ length buffer
-      → call n T (joinOf logs lengths q words work .words) base query h buffer .answer ≡ success (19 + 13 * h)
+  pub joined-plan : (call : ℕ → ℕ → List ℕ → ℕ → ℕ → ℕ → List ℕ → Delivered) → PlansShifts call → (base query h : ℕ) (buffer : List ℕ) → Review n base → Sub query base → 1 ≤ h → h ≤ T → 11 + formOf n .setBytes + recordBytes n * h ≤ length buffer
+      → call n T (joinOf logs lengths q words work .words) base query h buffer .answer ≡ success (11 + formOf n .setBytes + recordBytes n * h)
   joined-plan call p base query h buffer v s a b l = plan-succeeds call p buffer (record { lent = joined-lent-day; reviewed = v; named = s; some = a; enough = b }) l
 
   -- and writing succeeds, or is refused by 15.

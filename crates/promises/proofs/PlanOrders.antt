@@ -21,7 +21,7 @@ use Rattle.spans.specs.Encoding.{planRecords}
 use Rattle.spans.specs.PlanStatement.{partEnds, PlanAsked}
 use Rattle.groups.specs.ShiftPlans.{PlansShifts}
 use Rattle.promises.specs.Ties.{tiesWords}
-use Rattle.promises.proofs.PlanPromise.{plan-succeeds, ends-found, ends-first}
+use Rattle.promises.proofs.PlanPromise.{narrow-succeeds, ends-found, ends-first}
 use Rattle.promises.proofs.SmallDays.{computing}
 
 ties-lent : LentDay 3 5 tiesWords
@@ -64,7 +64,7 @@ other-order : (comes : List ℕ → List ℕ → Type 0) {es : List ℕ} → IsB
     → (call : ℕ → ℕ → List ℕ → ℕ → ℕ → ℕ → List ℕ → Delivered) → ChoosesBy comes call → PlansShifts call → ⊥
 other-order comes {es} b o call c p =
     let lent : List ℕ = replicate 58 0 in
-    let k = plan-succeeds call p lent ties-asked (omega (arith, length-replicate {A = ℕ} 58 0)) in
+    let k = narrow-succeeds call p lent ties-asked (omega arith) (omega (arith, length-replicate {A = ℕ} 58 0)) in
     c 3 5 tiesWords (full 3) 1 3 lent _ ties-asked k es b (rw (ends-found call p lent ties-asked _ k ∙ ties-ends) o)
 
 -- so none that takes the last of the best,

@@ -7,6 +7,7 @@ use Prim.Native.Nat.{ℕ, _+_, _*_, _≤_}
 use native.Mathlib.Decide.{decLt}
 use native.Mathlib.Omega.{arith}
 use lib.ListN.{length, take}
+use Rattle.sets.specs.Words.{wordBits}
 use Rattle.records.specs.Outcomes.{success}
 use Rattle.records.proofs.Outcomes.{success-same}
 use Rattle.log.specs.Buffers.{Delivered, deliver}
@@ -17,8 +18,9 @@ use Rattle.cuts.proofs.FirstCuttings.{neither-before}
 use Rattle.cuts.proofs.Sums.{best-ends}
 use Rattle.spans.specs.SpanCores.{SpanCore}
 use Rattle.spans.specs.Plans.{scoreOn}
-use Rattle.spans.specs.Encoding.{planBytes, planRecords}
+use Rattle.spans.specs.Encoding.{formOf, recordBytes, planBytes, planRecords}
 use Rattle.spans.specs.PlanStatement.{Runs, none, run, sumOfOrders, partEnds, PlanStatement, PlanAsked}
+use Rattle.spans.proofs.Forms.{form-narrow}
 use Rattle.spans.proofs.MostGroups.{plan-length}
 use Rattle.spans.proofs.PlanParts.{parts-stated, plan-ends}
 use Rattle.groups.specs.ShiftPlans.{PlansShifts}
@@ -37,7 +39,7 @@ runs-length : {T h t : ℕ} {ps : List SpanCore} → Runs T h t ps → length ps
 runs-length none = refl
 runs-length (run l r) = omega (arith, runs-length r)
 
-stated-length : {n T : ℕ} {ws : List ℕ} {base query h : ℕ} (ps : List SpanCore) → PlanStatement n T ws base query h ps → length (planBytes n T h query ps) ≡ 19 + 13 * h
+stated-length : {n T : ℕ} {ws : List ℕ} {base query h : ℕ} (ps : List SpanCore) → PlanStatement n T ws base query h ps → length (planBytes n T h query ps) ≡ 11 + formOf n .setBytes + recordBytes n * h
 stated-length {n} {T} {query = query} {h} ps s = plan-length n T h query ps (runs-length (s .cutting .runs))
 
 -- A call that keeps the promise:
@@ -59,12 +61,23 @@ module _ (call : ℕ → ℕ → List ℕ → ℕ → ℕ → ℕ → List ℕ �
   pub plan-kept : (size : ℕ) → call n T ws base query h buffer .answer ≡ success size → PlanStatement n T ws base query h (planRecords (take size (call n T ws base query h buffer .buffer)))
   plan-kept size g = let s = p n T ws base query h buffer a in rw (plan-bytes size g, s .said) (s .stated)
 
-  -- it succeeds in a buffer of 19 + 13×h bytes or more, and h fixes the number of bytes;
-  pub bytes-length : length bytes ≡ 19 + 13 * h
+  -- it succeeds in a buffer of as many bytes as n and h fix, or more,
+  pub bytes-length : length bytes ≡ 11 + formOf n .setBytes + recordBytes n * h
   bytes-length = let s = p n T ws base query h buffer a in stated-length (s .parts) (s .stated)
 
-  pub plan-succeeds : 19 + 13 * h ≤ length buffer → call n T ws base query h buffer .answer ≡ success (19 + 13 * h)
+  pub plan-succeeds : 11 + formOf n .setBytes + recordBytes n * h ≤ length buffer → call n T ws base query h buffer .answer ≡ success (11 + formOf n .setBytes + recordBytes n * h)
   plan-succeeds l = ap (λ (x : Delivered). x .answer) (p n T ws base query h buffer a .succeeds (omega (arith, bytes-length))) ∙ ap success bytes-length
+
+  -- which are 19 + 13×h up to 64 badges;
+  module _ (few : n ≤ wordBits) where
+    narrow : 11 + formOf n .setBytes + recordBytes n * h ≡ 19 + 13 * h
+    narrow = rw (form-narrow n few)
+
+    pub narrow-length : length bytes ≡ 19 + 13 * h
+    narrow-length = bytes-length ∙ narrow
+
+    pub narrow-succeeds : 19 + 13 * h ≤ length buffer → call n T ws base query h buffer .answer ≡ success (19 + 13 * h)
+    narrow-succeeds l = plan-succeeds (omega (arith, narrow)) ∙ ap success narrow
 
   -- and the ends that its bytes say are the first of the best cuttings, by the scores
   pub ends-found : (size : ℕ) → call n T ws base query h buffer .answer ≡ success size

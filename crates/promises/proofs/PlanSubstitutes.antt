@@ -6,7 +6,6 @@ use Prim.Native.Nat.{ℕ, suc, _+_, _-_, _*_, _≤_, _<_}
 use native.Mathlib.Omega.{arith}
 use lib.ListN.{length, getD, take, drop, replicate, length-replicate}
 use Rattle.sets.specs.Words.{wordsOf}
-use Rattle.sets.specs.Ascii.{ascii}
 use Rattle.sets.specs.Sets.{In, full, size}
 use Rattle.sets.specs.Bytes.{littleEndian}
 use Rattle.sets.proofs.Sets.{none-sub, sub-refl, is-sub-of}
@@ -20,14 +19,14 @@ use Rattle.spans.specs.Spans.{SpanOfDay}
 use Rattle.spans.specs.Contacts.{fellows}
 use Rattle.spans.specs.SpanCores.{SpanCore, Mem}
 use Rattle.spans.specs.Plans.{scoreOn, partsOf}
-use Rattle.spans.specs.Encoding.{encodeCores, planBytes, planRecords}
+use Rattle.spans.specs.Encoding.{formOf, encodeCores, planBytes, planRecords}
 use Rattle.spans.specs.PlanStatement.{Runs, none, run, sumOfOrders, PlanStatement, PlanAsked}
 use Rattle.spans.proofs.Decoding.{last-four}
 use Rattle.spans.proofs.Reviews.{all-reviewed}
 use Rattle.spans.proofs.PlanParts.{order-le, parts-stated}
 use Rattle.groups.specs.ShiftPlans.{PlansShifts}
 use Rattle.promises.specs.D1.{d1Words}
-use Rattle.promises.proofs.PlanPromise.{sums-same, bytes, plan-bytes, plan-kept, bytes-length, plan-succeeds}
+use Rattle.promises.proofs.PlanPromise.{sums-same, bytes, plan-bytes, plan-kept, narrow-length, narrow-succeeds}
 use Rattle.promises.proofs.SmallDays.{computing, d1-lent}
 
 -- n 3, T 4: 0–1 in ticks 0 and 1, 0–2 in ticks 2 and 3
@@ -109,7 +108,7 @@ pub careless-call : (call : ℕ → ℕ → List ℕ → ℕ → ℕ → ℕ →
     → PlansShifts call → ⊥
 careless-call call e p =
     let lent : List ℕ = replicate 45 0 in
-    let k = plan-succeeds call p lent turning-asked (omega (arith, length-replicate {A = ℕ} 45 0)) in
+    let k = narrow-succeeds call p lent turning-asked (omega arith) (omega (arith, length-replicate {A = ℕ} 45 0)) in
     careless-stated _ (plan-kept call p lent turning-asked _ k) (e 3 4 turning (full 3) 1 2 lent _ turning-asked (omega arith) k)
 
 -- Members that are not the core: D1 around badge 2 in one part, of score 1. No set with a member that has no fellow member can be shown,
@@ -130,8 +129,10 @@ members-all p = members-not-the-core 15 0 refl refl p
 plan-four : (n T h query : ℕ) (ps : List SpanCore) → drop (length (planBytes n T h query ps) - 4) (planBytes n T h query ps) ≡ littleEndian 4 h
 unfolding planBytes
 plan-four n T h query ps =
-    let head : List ℕ = ascii "PH" ++ (n ∷ T ∷ h ∷ littleEndian 8 query) in
-    ap (λ (b : List ℕ). drop (length b - 4) b) (sym (append-assoc head (encodeCores (ascii "PT") ps) (encode (End h)))) ∙ last-four (head ++ encodeCores (ascii "PT") ps) h
+    let form = formOf n in
+    let head : List ℕ = form .plan ++ (n ∷ T ∷ h ∷ littleEndian (form .setBytes) query) in
+    let all : List ℕ = encodeCores (form .setBytes) (form .part) ps in
+    ap (λ (b : List ℕ). drop (length b - 4) b) (sym (append-assoc head all (encode (End h)))) ∙ last-four (head ++ all) h
 
 -- An ED count that is the same for all plans, whatever else is written.
 module _ (count : ℕ) (call : ℕ → ℕ → List ℕ → ℕ → ℕ → ℕ → List ℕ → Delivered)
@@ -143,7 +144,7 @@ module _ (count : ℕ) (call : ℕ → ℕ → List ℕ → ℕ → ℕ → ℕ 
   right-count h a b =
       sym (written 4 3 d1Words (full 4) 0 h lent (19 + 13 * h) asked succeeds)
       ∙ ap (drop (19 + 13 * h - 4)) (plan-bytes call p lent asked (19 + 13 * h) succeeds)
-      ∙ ap (λ (k : ℕ). drop (k - 4) (bytes call p lent asked)) (sym (bytes-length call p lent asked))
+      ∙ ap (λ (k : ℕ). drop (k - 4) (bytes call p lent asked)) (sym (narrow-length call p lent asked (omega arith)))
       ∙ plan-four 4 3 h 0 _
     where
       lent : List ℕ
@@ -153,7 +154,7 @@ module _ (count : ℕ) (call : ℕ → ℕ → List ℕ → ℕ → ℕ → ℕ 
       asked = record { lent = d1-lent; reviewed = all-reviewed d1-lent; named = none-sub (full 4); some = a; enough = b }
 
       succeeds : call 4 3 d1Words (full 4) 0 h lent .answer ≡ success (19 + 13 * h)
-      succeeds = plan-succeeds call p lent asked (omega (arith, length-replicate {A = ℕ} 58 0))
+      succeeds = narrow-succeeds call p lent asked (omega arith) (omega (arith, length-replicate {A = ℕ} 58 0))
 
   pub plan-count-fixed : ⊥
   unfolding littleEndian

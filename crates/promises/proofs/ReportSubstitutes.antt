@@ -1,14 +1,13 @@
 -- Substitutes for the plain report, among them those that document 01's acceptance list names, each refuted from the group statement and the
 -- promise that the call keeps (GroupStatement in spans, GroupReports in groups).
 use mathlib.Core.Path.{_≡_, refl, sym, ap, _∙_}
-use mathlib.Core.List.{List, [], _∷_, _++_, List·Memᴰ·head, List·Memᴰ·tail, List·Memᴰ·not-nil, List·Memᴰ·cases-cons, List·Memᴰ·eq-of-singleton}
+use mathlib.Core.List.{List, [], _∷_, _++_, append-assoc, List·Memᴰ·head, List·Memᴰ·tail, List·Memᴰ·not-nil, List·Memᴰ·cases-cons, List·Memᴰ·eq-of-singleton}
 use mathlib.Core.Logic.{_⊎_, inl, inr, ⊎-elim, _↔_}
 use Prim.Native.Nat.{ℕ, _+_, _*_, _-_, _≤_, _<_}
 use native.Mathlib.Nat.{le-refl}
 use native.Mathlib.Omega.{arith}
 use lib.ListN.{length, replicate, take, drop, length-append, length-replicate}
 use lib.Seq.{take-at}
-use Rattle.sets.specs.Ascii.{ascii}
 use Rattle.sets.specs.Sets.{Sub, full}
 use Rattle.sets.specs.Bytes.{littleEndian, fromLittleEndian}
 use Rattle.sets.proofs.Sets.{sub-refl}
@@ -24,7 +23,7 @@ use Rattle.thresholds.specs.declared.Thresholds.{Thresholds}
 use Rattle.spans.specs.SpanCores.{SpanCore, Mem}
 use Rattle.thresholds.specs.Ranges.{plain}
 use Rattle.spans.specs.CircleRecords.{shownRecords}
-use Rattle.spans.specs.Encoding.{encodeCores, reportBytes, reportRecords, decodeCores, recordsAfter}
+use Rattle.spans.specs.Encoding.{formOf, recordBytes, encodeCores, reportBytes, headBadges, reportRecords, decodeCores, recordsAfter}
 use Rattle.spans.specs.GroupStatement.{GroupStatement, ReportAsked}
 use Rattle.spans.proofs.Decoding.{last-four, report-said}
 use Rattle.spans.proofs.MostGroups.{report-length}
@@ -110,7 +109,7 @@ promised-records {call} {groups} p {n} {T} {ws} {base} {least} a xs said f =
 pub empty-report : (call : ℕ → ℕ → List ℕ → ℕ → Thresholds → List ℕ → Delivered) (groups : ℕ → ℕ → List ℕ → ℕ → Thresholds → List SpanCore)
     → ((n T : ℕ) (ws buffer : List ℕ) → LentDay n T ws → call n T ws (full n) plain buffer ≡ deliver (success (reportBytes n T [])) buffer) → ReportsGroups call groups → ⊥
 empty-report call groups e p =
-    let s = promised-records p d1-plain [] (report-said 4 3 [] (λ c i. absurd (List·Memᴰ·not-nil i)) (omega arith)) (λ buffer. e 4 3 d1Words buffer d1-lent) in
+    let s = promised-records p d1-plain [] (report-said 4 3 [] (omega arith) (λ c i. absurd (List·Memᴰ·not-nil i)) (omega arith)) (λ buffer. e 4 3 d1Words buffer d1-lent) in
     List·Memᴰ·not-nil (d1-triple [] s)
 
 -- D1's report without its second group
@@ -166,7 +165,9 @@ bound-before-measuring call groups bound e p =
     long = length-replicate {A = ℕ} 10 0
 
     short : length (reportBytes 4 3 (groups 4 3 still (full 4) plain)) ≡ 10
-    short = report-length 4 3 (groups 4 3 still (full 4) plain) ∙ ap (λ (x : List SpanCore). 10 + 13 * length x) (none-still p)
+    short =
+        let none : 10 + recordBytes 4 * 0 ≡ 10 = omega arith in
+        report-length 4 3 (groups 4 3 still (full 4) plain) ∙ ap (λ (x : List SpanCore). 10 + recordBytes 4 * length x) (none-still p) ∙ none
 
 -- where bytes that differ in the ED count alone are equal, the four bytes of the two counts are the same
 same-four : (front : List ℕ) (count other : ℕ) (rest : List ℕ) → (front ++ encode (End count)) ++ rest ≡ (front ++ encode (End other)) ++ rest
@@ -183,7 +184,7 @@ same-four front count other rest e = sym (last-four front count) ∙ ap (λ (b :
 module _ (count : ℕ) (groups : ℕ → ℕ → List ℕ → ℕ → Thresholds → List SpanCore) (call : ℕ → ℕ → List ℕ → ℕ → Thresholds → List ℕ → Delivered)
     (written : (n T : ℕ) (ws buffer : List ℕ) → LentDay n T ws → length (reportBytes n T (groups n T ws (full n) plain)) ≤ length buffer
     → call n T ws (full n) plain buffer .buffer
-    ≡ ((ascii "RH" ++ (n ∷ T ∷ [])) ++ (encodeCores (ascii "GR") (groups n T ws (full n) plain) ++ encode (End count))) ++ drop (length (reportBytes n T (groups n T ws (full n) plain))) buffer)
+    ≡ ((formOf n .report ++ (n ∷ T ∷ [])) ++ (encodeCores (formOf n .setBytes) (formOf n .group) (groups n T ws (full n) plain) ++ encode (End count))) ++ drop (length (reportBytes n T (groups n T ws (full n) plain))) buffer)
     (p : ReportsGroups call groups) where
   asked : {n T : ℕ} {ws : List ℕ} → LentDay n T ws → ReportAsked n T ws (full n) plain
   unfolding computing
@@ -194,14 +195,18 @@ module _ (count : ℕ) (groups : ℕ → ℕ → List ℕ → ℕ → Thresholds
   unfolding reportBytes
   right-count {n} {T} {ws} d =
       let bytes = reportBytes n T (groups n T ws (full n) plain) in
-      same-four ((ascii "RH" ++ (n ∷ T ∷ [])) ++ encodeCores (ascii "GR") (groups n T ws (full n) plain)) count (length (groups n T ws (full n) plain)) (drop (length bytes) bytes)
-      (sym (written n T ws bytes d (le-refl _)) ∙ ap (λ (x : Delivered). x .buffer) (p .succeeds n T ws (full n) plain bytes (asked d) (le-refl _)))
+      let rest = drop (length bytes) bytes in
+      let header = formOf n .report ++ (n ∷ T ∷ []) in
+      let records = encodeCores (formOf n .setBytes) (formOf n .group) (groups n T ws (full n) plain) in
+      let apart : (k : ℕ) → ((header ++ records) ++ encode (End k)) ++ rest ≡ (header ++ (records ++ encode (End k))) ++ rest = λ k. ap (λ (x : List ℕ). x ++ rest) (append-assoc header records (encode (End k))) in
+      same-four (header ++ records) count (length (groups n T ws (full n) plain)) rest
+      (apart count ∙ sym (written n T ws bytes d (le-refl _)) ∙ ap (λ (x : Delivered). x .buffer) (p .succeeds n T ws (full n) plain bytes (asked d) (le-refl _)) ∙ sym (apart _))
 
   pub end-count-fixed : ⊥
-  unfolding reportBytes recordsAfter decodeCores littleEndian fromLittleEndian
+  unfolding formOf reportBytes recordsAfter decodeCores littleEndian fromLittleEndian
   end-count-fixed =
       let xs = groups 4 3 d1Words (full 4) plain in
       let a : littleEndian 4 (length xs) ≡ littleEndian 4 0 = sym (right-count d1-lent) ∙ right-count still-lent ∙ ap (λ (x : List SpanCore). littleEndian 4 (length x)) (none-still p) in
-      let b : drop (length (reportBytes 4 3 xs) - 4) (reportBytes 4 3 xs) ≡ littleEndian 4 0 = last-four ((ascii "RH" ++ (4 ∷ 3 ∷ [])) ++ encodeCores (ascii "GR") xs) (length xs) ∙ a in
-      let c : xs ≡ [] = sym (p .said 4 3 d1Words (full 4) plain d1-plain) ∙ ap (λ (x : List ℕ). decodeCores (fromLittleEndian x) (drop 4 (reportBytes 4 3 xs))) b in
+      let b : drop (length (reportBytes 4 3 xs) - 4) (reportBytes 4 3 xs) ≡ littleEndian 4 0 = last-four ((formOf 4 .report ++ (4 ∷ 3 ∷ [])) ++ encodeCores (formOf 4 .setBytes) (formOf 4 .group) xs) (length xs) ∙ a in
+      let c : xs ≡ [] = sym (p .said 4 3 d1Words (full 4) plain d1-plain) ∙ ap (λ (x : List ℕ). decodeCores (formOf (headBadges (reportBytes 4 3 xs)) .setBytes) (fromLittleEndian x) (drop 4 (reportBytes 4 3 xs))) b in
       List·Memᴰ·not-nil (rw c at (d1-triple xs (p .stated 4 3 d1Words (full 4) plain d1-plain)))

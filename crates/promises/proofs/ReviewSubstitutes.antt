@@ -33,7 +33,7 @@ use Rattle.promises.specs.D1.{d1Words}
 use Rattle.promises.proofs.SmallDays.{computing, d1-lent, d1-plain, triple, d1-groups}
 use Rattle.promises.proofs.NumberSubstitutes.{d1-span, promised-numbers}
 use Rattle.promises.proofs.ReportSubstitutes.{stated-shown, d1-triple, same-records}
-use Rattle.promises.proofs.PlanPromise.{sums-same, plan-kept, plan-succeeds}
+use Rattle.promises.proofs.PlanPromise.{sums-same, plan-kept, narrow-succeeds}
 
 -- D1's badges without 2
 abbrev others : ℕ
@@ -104,7 +104,7 @@ pub plan-ignoring : (f : ℕ → ℕ → List ℕ → ℕ → ℕ → List ℕ �
 plan-ignoring f p =
     let call : ℕ → ℕ → List ℕ → ℕ → ℕ → ℕ → List ℕ → Delivered = λ n T ws base query h buffer. f n T ws query h buffer in
     let lent : List ℕ = replicate 58 0 in
-    let k = plan-succeeds call p lent all-asked (omega (arith, length-replicate {A = ℕ} 58 0)) in
+    let k = narrow-succeeds call p lent all-asked (omega arith) (omega (arith, length-replicate {A = ℕ} 58 0)) in
     let a = sums-same _ _ (plan-kept call p lent all-asked _ k) (parts-stated all-asked) in
     let b = sums-same _ _ (plan-kept call p lent others-asked _ k) (parts-stated others-asked) in
     omega (arith, all-sum, others-sum)
@@ -184,7 +184,7 @@ pub all-at-score-zero : (call : ℕ → ℕ → List ℕ → ℕ → ℕ → ℕ
     → PlansShifts call → ⊥
 all-at-score-zero call all p =
     let lent : List ℕ = replicate 32 0 in
-    let k = plan-succeeds call p lent one-asked (omega (arith, length-replicate {A = ℕ} 32 0)) in
+    let k = narrow-succeeds call p lent one-asked (omega arith) (omega (arith, length-replicate {A = ℕ} 32 0)) in
     let s = plan-kept call p lent one-asked _ k in
     let x = first-part (s .cutting .runs) (omega arith) in
     let zero : x .0 .order ≡ 0 = omega (arith, x .2, sums-same _ _ s (parts-stated one-asked), one-sum) in

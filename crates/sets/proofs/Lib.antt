@@ -16,3 +16,4 @@ pub mod InWord
 pub mod WordByWord
 pub mod Places
 pub mod OneWord
+pub mod EachWord

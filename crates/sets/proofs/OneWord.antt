@@ -9,14 +9,13 @@ use lib.Bits.{bitOr, or-block, or-zero-r, or-lt}
 use lib.ListN.{length, getD, set, take, drop, length-set}
 use lib.Pow.{pow-lt}
 use lib.Seq.{sets, sets-eq, drop-drop, getD-set-same, getD-set-other}
-use borrow.Author.Tests.{lt-ltb, le-ltb}
 use borrow.Rule.Slice.PartMut.{set-mid-at}
 use Rattle.sets.specs.Sets.{union, only}
 use Rattle.sets.specs.Words.{wordBits, Words, fromWords, toWords, lowerWords, setWords, places, wordsAt, setAt, putSet}
-use Rattle.sets.specs.Members.{capacity, insertAt}
+use Rattle.sets.specs.Members.{capacity}
 use Rattle.sets.proofs.Words.{to-from-words}
 use Rattle.sets.proofs.WordByWord.{in-one-word}
-use Rattle.sets.proofs.Places.{set-at-in, at-length, at-word, at-words, put-in, put-out}
+use Rattle.sets.proofs.Places.{set-at-in, at-length, at-word, at-words, put-in}
 
 -- another word at a place of a list of words
 pub words-set : (ws : List ℕ) (i w : ℕ) → Words ws → w < 2 ^ wordBits → Words (set ws i w)
@@ -55,24 +54,10 @@ module _ (f : ℕ → ℕ → ℕ) (block : (k a b r s : ℕ) → r < 2 ^ k → 
       sym (put-in ws i (f (setAt ws i) (only u)) h ∙ ap (sets ws (i * setWords)) words ∙ run-one ws (i * setWords) setWords j x size (omega arith) (omega arith)
       ∙ ap (λ (y : ℕ). set ws (i * setWords + j) (f y (only (u % wordBits)))) word)
 
--- a badge put into a set at a place: one that a set can hold, and another
-pub insert-at-in : (ws : List ℕ) (i u : ℕ) → u < capacity → insertAt ws i u ≡ putSet ws i (union (setAt ws i) (only u))
-unfolding insertAt
-insert-at-in ws i u h = rw (lt-ltb u capacity h, insertAt)
-
-pub insert-at-out : (ws : List ℕ) (i u : ℕ) → capacity ≤ u → insertAt ws i u ≡ ws
-unfolding insertAt
-insert-at-out ws i u h = rw (le-ltb u capacity h, insertAt)
-
--- it is put there by one word
-pub insert-at-word : (ws : List ℕ) (i u : ℕ) → Words ws → i < places ws → u < capacity
-    → set ws (i * setWords + u / wordBits) (bitOr (getD ws (i * setWords + u / wordBits) 0) (2 ^ (u % wordBits))) ≡ insertAt ws i u
+-- so a badge is put into the set at a place by one word
+pub insert-word : (ws : List ℕ) (i u : ℕ) → Words ws → i < places ws → u < capacity
+    → set ws (i * setWords + u / wordBits) (bitOr (getD ws (i * setWords + u / wordBits) 0) (2 ^ (u % wordBits))) ≡ putSet ws i (union (setAt ws i) (only u))
 unfolding union only
-insert-at-word ws i u w h l =
+insert-word ws i u w h l =
     let k : u % wordBits < wordBits = omega arith in
     put-one-word union or-block or-zero-r ws i u w h l (or-lt wordBits _ _ (w .at (i * setWords + u / wordBits) (omega arith)) (pow-lt k))
-    ∙ sym (insert-at-in ws i u l)
-
--- and words that do not reach the place stay
-pub insert-at-past : (ws : List ℕ) (i u : ℕ) → places ws ≤ i → u < capacity → insertAt ws i u ≡ ws
-insert-at-past ws i u h l = insert-at-in ws i u l ∙ put-out ws i _ h

@@ -1,7 +1,7 @@
 -- Laws of sets that stand one after the other in words: the set at each place, a set put at a place, and the words of a list of sets.
 use mathlib.Core.Path.{_≡_, refl, sym, ap, ap₂, _∙_}
 use mathlib.Core.Bool.{true, false}
-use mathlib.Core.List.{List, [], _∷_, _++_, append-assoc}
+use mathlib.Core.List.{List, [], _∷_, _++_, append-nil, append-assoc}
 use mathlib.Core.Logic.{by-cases}
 use Prim.Native.Nat.{ℕ, zero, suc, _+_, _-_, _*_, _/_, _%_, _^_, _≤_, _<_, zero-le, suc-le-suc}
 use native.Mathlib.Nat.{le-of-suc-le-suc, not-suc-le-zero}
@@ -162,6 +162,14 @@ put-other ws i j s f = by-cases (decLt j (places ws))
         (λ h. rw (put-in ws i s h) (run-elsewhere (toWords lowerWords s) ws (i * setWords) k (λ y l e. g (omega (arith, length-to-words lowerWords s)))))
         (λ h. rw (put-out ws i s (omega arith)))
 
+-- the words up to the set that was put: those before it, and its own
+pub put-first : (ws : List ℕ) (i s : ℕ) → i < places ws → take (suc i * setWords) (putSet ws i s) ≡ take (i * setWords) ws ++ toWords lowerWords s
+put-first ws i s h =
+    let e = length-to-words lowerWords s in
+    let k = length-take-le (i * setWords) ws (omega arith) in
+    ap (take (suc i * setWords)) (put-in ws i s h ∙ sets-eq (toWords lowerWords s) ws (i * setWords) (rw e (omega arith)))
+    ∙ take-at (take (i * setWords) ws ++ toWords lowerWords s) _ (suc i * setWords) (omega (arith, length-append (take (i * setWords) ws) (toWords lowerWords s)))
+
 -- the words of sets are so many
 pub words-of-length : (ss : List ℕ) → length (wordsOf ss) ≡ length ss * setWords
 unfolding wordsOf
@@ -171,6 +179,12 @@ words-of-length (s ∷ ss) = length-append (toWords lowerWords s) (wordsOf ss) �
 words-more : (s : ℕ) (ss : List ℕ) → wordsOf (s ∷ ss) ≡ toWords lowerWords s ++ wordsOf ss
 unfolding wordsOf
 words-more s ss = refl
+
+-- the words of lists of sets one after the other
+pub words-append : (ss ts : List ℕ) → wordsOf (ss ++ ts) ≡ wordsOf ss ++ wordsOf ts
+unfolding wordsOf
+words-append [] ts = refl
+words-append (s ∷ ss) ts = ap (λ (x : List ℕ). toWords lowerWords s ++ x) (words-append ss ts) ∙ sym (append-assoc (toWords lowerWords s) (wordsOf ss) (wordsOf ts))
 
 -- the set at each place is the one at that place of the list
 pub set-at-words : (ss rest : List ℕ) (i : ℕ) → i < length ss → setAt (wordsOf ss ++ rest) i ≡ getD ss i 0
@@ -187,6 +201,10 @@ set-at-words (s ∷ ss) rest (suc i) h =
     ap₂ setAt (append-assoc (toWords lowerWords s) (wordsOf ss) rest) (omega arith)
     ∙ set-at-after (toWords lowerWords s) (wordsOf ss ++ rest) 1 i (length-to-words lowerWords s ∙ omega arith)
     ∙ set-at-words ss rest i (le-of-suc-le-suc h)
+
+-- without other words behind them
+pub set-at-sets : (ss : List ℕ) (i : ℕ) → i < length ss → setAt (wordsOf ss) i ≡ getD ss i 0
+set-at-sets ss i h = ap (λ (x : List ℕ). setAt x i) (sym (append-nil (wordsOf ss))) ∙ set-at-words ss [] i h
 
 -- a run of stores behind some elements is one in what follows them
 run-behind : (vs xs ys : List ℕ) (k j : ℕ) → k ≡ length xs + j → sets (xs ++ ys) k vs ≡ xs ++ sets ys j vs
@@ -216,6 +234,10 @@ put-words ss rest i s h = put-in _ i s (omega (arith, length-append (wordsOf ss)
         rw (words-more t ss, words-more t (set ss i s), append-assoc (toWords lowerWords t) (wordsOf ss) rest, append-assoc (toWords lowerWords t) (wordsOf (set ss i s)) rest)
         (run-behind (toWords lowerWords s) (toWords lowerWords t) (wordsOf ss ++ rest) (suc i * setWords) (i * setWords) (omega (arith, length-to-words lowerWords t))
         ∙ ap (λ (x : List ℕ). toWords lowerWords t ++ x) (stored ss i (le-of-suc-le-suc h)))
+
+-- without other words behind them
+pub put-sets : (ss : List ℕ) (i s : ℕ) → i < length ss → putSet (wordsOf ss) i s ≡ wordsOf (set ss i s)
+put-sets ss i s h = ap (λ (x : List ℕ). putSet x i s) (sym (append-nil (wordsOf ss))) ∙ put-words ss [] i s h ∙ append-nil (wordsOf (set ss i s))
 
 -- the words of empty sets are 0
 words-none : (k : ℕ) → toWords k 0 ≡ replicate (suc k) 0

@@ -7,7 +7,7 @@ use native.Mathlib.Nat.{le-of-suc-le-suc, not-suc-le-zero, mod-lt}
 use native.Mathlib.Decide.{decLt}
 use native.Mathlib.Omega.{arith}
 use lib.Dec.{lit<}
-use lib.ListN.{length, getD, take, List·getD-eq-default}
+use lib.ListN.{length, getD, take, drop, List·getD-eq-default}
 use lib.Pow.{high, low, split, pow-add}
 use Rattle.sets.specs.Sets.{bit, In, Sub}
 use Rattle.sets.specs.Words.{wordBits, Words, fromWords, toWords}
@@ -37,6 +37,12 @@ pub words-take : (m : ℕ) {ws : List ℕ} → Words ws → Words (take m ws)
 words-take zero h = words-nil
 words-take (suc m) {ws = []} h = h
 words-take (suc m) {ws = w ∷ ws} h = words-cons (words-head h) (words-take m (words-rest h))
+
+-- and those after so many
+pub words-drop : (m : ℕ) {ws : List ℕ} → Words ws → Words (drop m ws)
+words-drop zero h = h
+words-drop (suc m) {ws = []} h = h
+words-drop (suc m) {ws = w ∷ ws} h = words-drop m (words-rest h)
 
 -- badge u is bit u % 64 of word u / 64
 pub words-bit : (ws : List ℕ) (u : ℕ) → Words ws → bit (fromWords ws) u ≡ bit (getD ws (u / wordBits) 0) (u % wordBits)

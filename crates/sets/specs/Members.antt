@@ -1,11 +1,10 @@
 -- What a BadgeSet of the program stands for. Contracts name `members` and never the field, so a wider set changes this file alone.
 use mathlib.Core.Bool.{true, false}
-use mathlib.Core.List.{List}
 use Prim.Native.Nat.{ℕ, _*_}
 use lib.Dec.{ltb}
 use Rattle.sets.specs.declared.BadgeSet.{BadgeSet}
 use Rattle.sets.specs.Sets.{union, only}
-use Rattle.sets.specs.Words.{wordBits, setWords, setAt, putSet}
+use Rattle.sets.specs.Words.{wordBits, setWords}
 
 -- a set holds badges below this number
 abbrev pub capacity : ℕ
@@ -22,7 +21,3 @@ members s = s .bits
 -- s with badge u; a badge that no set can hold changes nothing
 unfoldable pub insert : ℕ → ℕ → ℕ
 insert s u = elim (ltb u capacity) [ true ↦ union s (only u) | false ↦ s ]
-
--- the words with badge u in the set at place i as well; the same words where no set can hold it
-unfoldable pub insertAt : List ℕ → ℕ → ℕ → List ℕ
-insertAt ws i u = elim (ltb u capacity) [ true ↦ putSet ws i (union (setAt ws i) (only u)) | false ↦ ws ]

@@ -7,7 +7,7 @@ ghost use lib.Dec.{eqb};
 ghost use Rattle.sets.specs.Sets.{has, isSub, intersection, union, difference, symmetricDifference, only, full, size, smallest};
 ghost use lib.ListN.{getD};
 ghost use Rattle.sets.specs.Words.{lowerWords, toWords, setAt, putSet};
-ghost use Rattle.sets.specs.Members.{members, capacity, insert, insertAt};
+ghost use Rattle.sets.specs.Members.{members, capacity, insert};
 pub use widening::widen;
 
 // The bits of a word; how many words hold a set, in memory that is lent and in memory of one's own; how many badges there can be in a set; and the words of
@@ -190,19 +190,5 @@ pub fn put_set(words: &mut [u64], i: usize, s: BadgeSet)
 {
     if i < words.len() {
         words[i] = s.bits;
-    }
-}
-
-// Puts badge u into the set at place i of sets that stand one after the other in words; changes nothing where the words do not reach that far, or where no
-// set can hold the badge. One word is changed.
-pub fn insert_at(words: &mut [u64], i: usize, u: usize)
-    ensures { λ _. ⌜ now (words .exit) ≡ insertAt (now (words .entry)) i u ⌝ }
-{
-    if CAPACITY <= u {
-        return;
-    }
-    if i < words.len() / SET_WORDS {
-        let at = i * SET_WORDS + u / WORD_BITS;
-        words[at] = words[at] | (1 << (u % WORD_BITS));
     }
 }

@@ -6,6 +6,7 @@ pub mod Reviews
 pub mod OrderSets
 pub mod SpanCircles
 -- records in bytes
+pub mod Forms
 pub mod Encoding
 pub mod Decoding
 -- the report: maximal cores, thresholds, and the statement of whole cores

@@ -8,7 +8,6 @@ use native.Mathlib.Omega.{arith}
 use lib.Dec.{leb}
 use lib.ListN.{length, length-append}
 use borrow.Author.Tests.{leb-true, leb-false}
-use Rattle.sets.specs.Ascii.{ascii}
 use Rattle.sets.specs.Bytes.{littleEndian}
 use Rattle.sets.specs.Tables.{concatBelow, keepIf}
 use Rattle.sets.proofs.Bytes.{length-little-endian}
@@ -19,27 +18,42 @@ use Rattle.records.specs.Records.{encode}
 use Rattle.records.proofs.Records.{length-encode}
 use Rattle.spans.specs.SpanCores.{SpanCore}
 use Rattle.spans.specs.Reports.{groupsOn, groupsFrom, groupsOf}
-use Rattle.spans.specs.Encoding.{spanCount, maxCores, encodeCores, reportBytes, planBytes}
+use Rattle.spans.specs.Encoding.{spanCount, maxCores, formOf, recordBytes, encodeCores, reportBytes, planBytes}
 use Rattle.spans.proofs.Maximal.{groups-on}
+use Rattle.spans.proofs.Forms.{marked}
 use Rattle.spans.proofs.Encoding.{encode-cores-length}
 
--- a report has 10 bytes and 13 for each record
-pub report-length : (n T : ℕ) (records : List SpanCore) → length (reportBytes n T records) ≡ 10 + 13 * length records
+-- a report has 10 bytes and those of each record
+pub report-length : (n T : ℕ) (records : List SpanCore) → length (reportBytes n T records) ≡ 10 + recordBytes n * length records
 unfolding reportBytes
 report-length n T records =
-    omega (arith, length-append (encodeCores (ascii "GR") records) (encode (End (length records))), encode-cores-length (ascii "GR") refl records, length-encode (End (length records)))
+    let form = formOf n in
+    omega (
+      arith,
+      length-append (form .report ++ (n ∷ T ∷ [])) (encodeCores (form .setBytes) (form .group) records ++ encode (End (length records))),
+      length-append (form .report) (n ∷ T ∷ []),
+      marked n .report,
+      length-append (encodeCores (form .setBytes) (form .group) records) (encode (End (length records))),
+      encode-cores-length (form .setBytes) (form .group) (marked n .group) records,
+      length-encode (End (length records)),
+    )
 
--- a plan has 19 bytes and 13 for each part
-pub plan-length : (n T h query : ℕ) (parts : List SpanCore) → length parts ≡ h → length (planBytes n T h query parts) ≡ 19 + 13 * h
+-- a plan has 11 bytes, those of the query and those of each part
+pub plan-length : (n T h query : ℕ) (parts : List SpanCore) → length parts ≡ h → length (planBytes n T h query parts) ≡ 11 + formOf n .setBytes + recordBytes n * h
 unfolding planBytes
-plan-length n T h query parts e = omega (
-  arith,
-  length-append (ascii "PH" ++ (n ∷ T ∷ h ∷ littleEndian 8 query)) (encodeCores (ascii "PT") parts ++ encode (End h)),
-  length-append (encodeCores (ascii "PT") parts) (encode (End h)),
-  length-little-endian 8 query,
-  encode-cores-length (ascii "PT") refl parts,
-  length-encode (End h),
-)
+plan-length n T h query parts e =
+    let form = formOf n in
+    let all : length (encodeCores (form .setBytes) (form .part) parts) ≡ recordBytes n * h = rw e at (encode-cores-length (form .setBytes) (form .part) (marked n .part) parts) in
+    omega (
+      arith,
+      length-append (form .plan ++ (n ∷ T ∷ h ∷ littleEndian (form .setBytes) query)) (encodeCores (form .setBytes) (form .part) parts ++ encode (End h)),
+      length-append (form .plan) (n ∷ T ∷ h ∷ littleEndian (form .setBytes) query),
+      marked n .plan,
+      length-append (encodeCores (form .setBytes) (form .part) parts) (encode (End h)),
+      length-little-endian (form .setBytes) query,
+      all,
+      length-encode (End h),
+    )
 
 -- no day has more spans than one of 96 ticks
 pub spans-few : {T : ℕ} → T ≤ maxTicks → spanCount T ≤ maxCores

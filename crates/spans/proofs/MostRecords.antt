@@ -4,7 +4,7 @@ use mathlib.Core.Path.{_≡_, refl, subst}
 use mathlib.Core.List.{List, [], _∷_, List·Memᴰ·head, List·Memᴰ·tail}
 use mathlib.Core.Logic.{_⊎_, inl, inr, by-cases}
 use Prim.Native.Nat.{ℕ, zero, suc, _+_, _*_, _/_, _≤_, _<_, zero-le, suc-le-suc}
-use native.Mathlib.Nat.{le-refl, le-trans, eq-or-lt-of-le, mul-comm, mul-le-mul, div-mul-le-self, le-div-iff-mul-le}
+use native.Mathlib.Nat.{le-refl, le-trans, eq-or-lt-of-le, mul-comm, mul-le-mul, mul-le-mul-left, div-mul-le-self, le-div-iff-mul-le}
 use native.Mathlib.Decide.{decLt}
 use native.Mathlib.Omega.{arith}
 use lib.ListN.{length, length-append, length-map}
@@ -25,7 +25,7 @@ use Rattle.spans.specs.SpanCores.{SpanCore, Mem}
 use Rattle.spans.specs.Reports.{groupsFrom, groupsOf}
 use Rattle.spans.specs.CircleRecords.{withMembers, circlesOf, recordsOf, circleRecords, shownRecords}
 use Rattle.spans.specs.CoreStatement.{CoreStatement}
-use Rattle.spans.specs.Encoding.{circlesUpTo, mostRecords, maxRecords, maxReportBytes, reportBytes, reportRecords}
+use Rattle.spans.specs.Encoding.{circlesUpTo, mostRecords, maxRecords, maxReportBytes, recordBytes, reportBytes, reportRecords}
 use Rattle.spans.proofs.OrderSets.{order-cohesive}
 use Rattle.spans.proofs.SpanCircles.{span-symmetric, span-irreflexive}
 use Rattle.spans.proofs.Maximal.{maximal-of}
@@ -35,6 +35,7 @@ use Rattle.spans.proofs.GroupLists.{Shown, of-groups, group-few, group-
 use Rattle.spans.proofs.RecordLists.{circle-records-concat}
 use Rattle.spans.proofs.CircleStated.{core-span, core-inside, core-small, report-stated}
 use Rattle.spans.proofs.StatedRecords.{records-small}
+use Rattle.spans.proofs.Forms.{form-narrow}
 use Rattle.spans.proofs.Decoding.{report-said}
 use Rattle.spans.proofs.MostGroups.{report-length}
 
@@ -144,14 +145,17 @@ module _ {n T : ℕ} {ws : List ℕ} {base : ℕ} (lent : LentDay n T ws) (r : S
       le-trans (kept-le least _) all
 
   -- So long a report of the day is at most, and so long any report.
-  pub report-most-for : (least : Thresholds) → length (reportBytes n T (shownRecords n T ws base least)) ≤ 10 + 13 * mostRecords n T
-  report-most-for least = omega (arith, report-length n T (shownRecords n T ws base least), records-few least)
+  pub report-most-for : (least : Thresholds) → length (reportBytes n T (shownRecords n T ws base least)) ≤ 10 + recordBytes n * mostRecords n T
+  report-most-for least = omega (arith, report-length n T (shownRecords n T ws base least), mul-le-mul-left (recordBytes n) (records-few least))
 
   pub report-most : (least : Thresholds) → length (reportBytes n T (shownRecords n T ws base least)) ≤ maxReportBytes
-  report-most least = let l = limits-of (lent .limits) in omega (arith, report-most-for least, most-small (l .few) (l .short))
+  report-most least =
+      let l = limits-of (lent .limits) in
+      let narrow : length (reportBytes n T (shownRecords n T ws base least)) ≤ 10 + 13 * mostRecords n T = rw (form-narrow n (l .few)) at (report-most-for least) in
+      omega (arith, narrow, most-small (l .few) (l .short))
 
-  -- the bytes of a report say its records: their number fits four bytes, and their members eight
+  -- the bytes of a report say its records: their number fits four bytes, and their members those of their sets
   pub shown-said : (least : Thresholds) → reportRecords (reportBytes n T (shownRecords n T ws base least)) ≡ shownRecords n T ws base least
   shown-said least =
       let l = limits-of (lent .limits) in
-      report-said n T (shownRecords n T ws base least) (records-small lent r (report-stated lent r)) (omega (arith, records-few least, most-small (l .few) (l .short)))
+      report-said n T (shownRecords n T ws base least) (omega (arith, l .few)) (records-small r (report-stated lent r)) (omega (arith, records-few least, most-small (l .few) (l .short)))

@@ -7,9 +7,7 @@ use native.Mathlib.Nat.{le-refl}
 use native.Mathlib.Omega.{arith}
 use lib.ListN.{length}
 use Rattle.sets.specs.Sets.{Sub, full}
-use Rattle.sets.specs.Members.{capacity}
 use Rattle.sets.proofs.Sets.{of-full, sub-trans, lt-of-members}
-use Rattle.records.proofs.WithinLimits.{limits-of}
 use Rattle.cores.proofs.Degrees.{LeastDegree}
 use Rattle.cores.specs.Cores.{core}
 use Rattle.cores.proofs.Cores.{core-sub, core-zero}
@@ -118,11 +116,11 @@ module _ (n : ℕ) (ws : List ℕ) (base query : ℕ) where
   parts-are t [] p i = absurd (List·Memᴰ·not-nil i)
   parts-are t (e ∷ es) p i = ⊎-elim (λ q. rw q) (parts-are (suc e) es p) (List·Memᴰ·cases-cons i)
 
-  parts-small : (t : ℕ) (ends : List ℕ) → n ≤ capacity → Sub base (full n) → (p : SpanCore) → Mem p (partsFrom n ws base query t ends) → p .members < 2 ^ capacity
+  parts-small : (t : ℕ) (ends : List ℕ) → Sub base (full n) → (p : SpanCore) → Mem p (partsFrom n ws base query t ends) → p .members < 2 ^ n
   unfolding partOn
-  parts-small t ends w r p i =
+  parts-small t ends r p i =
       rw (parts-are t ends p i)
-      (lt-of-members capacity _ (λ u j. omega (arith, of-full n u (r .at u (members-sub n ws base (scoreOn n ws base query (p .first) (p .last)) (p .first) (p .last) .at u j)))))
+      (lt-of-members n _ (λ u j. of-full n u (r .at u (members-sub n ws base (scoreOn n ws base query (p .first) (p .last)) (p .first) (p .last) .at u j))))
 
   parts-sum : (t : ℕ) (ends : List ℕ) → sumOfOrders (partsFrom n ws base query t ends) ≡ total (scoreOn n ws base query) t ends
   unfolding partsFrom partOn sumOfOrders total
@@ -190,9 +188,9 @@ module _ {n T : ℕ} {ws : List ℕ} {base query h : ℕ} (a : PlanAsked n T ws 
   unfolding partsOf
   plan-count = parts-length n ws base query 0 (bestEnds (scoreOn n ws base query) T h) ∙ ends-first .best .cutting .count
 
-  pub plan-small : (p : SpanCore) → Mem p (partsOf n T ws base query h) → p .members < 2 ^ capacity
+  pub plan-small : (p : SpanCore) → Mem p (partsOf n T ws base query h) → p .members < 2 ^ n
   unfolding partsOf
-  plan-small p i = parts-small n ws base query 0 (bestEnds (scoreOn n ws base query) T h) (limits-of (a .lent .limits) .few) (a .reviewed .named) p i
+  plan-small p i = parts-small n ws base query 0 (bestEnds (scoreOn n ws base query) T h) (a .reviewed .named) p i
 
   pub parts-stated : PlanStatement n T ws base query h (partsOf n T ws base query h)
   parts-stated = record {

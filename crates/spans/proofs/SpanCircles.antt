@@ -19,9 +19,9 @@ use Rattle.circles.specs.Circles.{circles}
 use Rattle.circles.proofs.Chains.{circle-same}
 use Rattle.circles.proofs.CircleLists.{circles-rows}
 use Rattle.circles.proofs.CohesiveCircles.{Irreflexive}
-use Rattle.spans.specs.Spans.{SpanOfDay, spanNeighbours, spanRows}
+use Rattle.spans.specs.Spans.{SpanOfDay, spanNeighbours, spanWords}
 use Rattle.spans.specs.Contacts.{fellows}
-use Rattle.spans.proofs.SpanRows.{in-span, of-span, span-row}
+use Rattle.spans.proofs.SpanRows.{in-span, of-span, span-set}
 use Rattle.spans.proofs.OrderSets.{apart, fellows-are}
 
 -- a set of a day's badges is one that a word holds
@@ -57,9 +57,9 @@ module _ {n T : ℕ} {ws : List ℕ} {first last : ℕ} (d : SpanOfDay n T ws fi
   fellows-circle k = circle-same fellow-pairs pairs-fellow k
 
   -- and by the rows of the span in an array
-  pub span-circles : circles (graph (spanRows n ws first last)) s ≡ circles (spanNeighbours n ws first last) s
+  pub span-circles : circles (graph (spanWords n ws first last)) s ≡ circles (spanNeighbours n ws first last) s
   span-circles =
       let few = limits-of (d .lent .limits) .few in
       circles-rows s (day-small (d .lent) s w)
-      (record { pair = λ u v i j p. rw (span-row n ws first last u few (of-full n u (w .at u i))) at p })
-      (record { pair = λ u v i j p. rw (span-row n ws first last u few (of-full n u (w .at u i))) p })
+      (record { pair = λ u v i j p. rw (span-set n ws first last u few (of-full n u (w .at u i))) at p })
+      (record { pair = λ u v i j p. rw (span-set n ws first last u few (of-full n u (w .at u i))) p })

@@ -1,26 +1,30 @@
 -- Laws of spans and their rows: which ticks make a span; a pair is joined exactly when it is in contact in every tick of the span, so a longer
 -- span has fewer pairs.
-use mathlib.Core.Path.{_≡_, sym, _∙_}
+use mathlib.Core.Path.{_≡_, sym, ap, _∙_}
 use mathlib.Core.Bool.{true}
 use mathlib.Core.List.{List, _++_}
 use mathlib.Core.Logic.{⊎-elim, by-cases}
-use Prim.Native.Nat.{ℕ, suc, _≤_, _<_, suc-le-suc}
+use Prim.Native.Nat.{ℕ, suc, _*_, _≤_, _<_, suc-le-suc}
+use native.Mathlib.Nat.{lt-of-lt-of-le}
 use native.Mathlib.Decide.{decLt}
 use native.Mathlib.Omega.{arith}
-use lib.Dec.{ltb}
+use lib.Dec.{ltb, lit<}
 use lib.ListN.{length, getD, List·getD-eq-default}
+use lib.Pow.{pow-mono}
 use borrow.Author.Tests.{leb-true, le-leb, ltb-true, lt-ltb}
 use Rattle.sets.specs.Bools.{_or_}
 use Rattle.sets.specs.Sets.{In, Sub, full}
-use Rattle.sets.specs.Members.{capacity}
+use Rattle.sets.specs.Members.{capacity, rowWords}
+use Rattle.sets.specs.Words.{setWords, Words, setAt}
 use Rattle.sets.proofs.Bools.{and-in, and-left, and-right, or-left, or-right, or-of, all-in, all-of}
-use Rattle.sets.proofs.Sets.{in-test, has-test, in-set, of-set, of-set-lt, in-full, of-full}
+use Rattle.sets.proofs.Sets.{in-test, has-test, set-lt, in-set, of-set, of-set-lt, in-full, of-full}
 use Rattle.sets.proofs.Tables.{tabulate-length, tabulate-at, piecewise-in, piecewise-out}
+use Rattle.sets.proofs.Places.{set-at-out, words-of-length, set-at-sets, words-fit}
 use Rattle.records.specs.Limits.{wordsFor}
 use Rattle.days.specs.Days.{neighbours, adjacent}
 use Rattle.days.proofs.Days.{neighbours-append}
 use Rattle.cores.proofs.Degrees.{FewerPairs}
-use Rattle.spans.specs.Spans.{isSpan, throughout, spanNeighbours, spanRows}
+use Rattle.spans.specs.Spans.{isSpan, throughout, spanNeighbours, spanRows, spanWords}
 
 -- the test for a span of the day passes exactly when first is not after last and last is below T
 pub span-in : (T first last : ℕ) → first ≤ last → last < T → isSpan T first last ≡ true
@@ -100,3 +104,22 @@ span-row-none n ws first last u l =
     by-cases (decLt u capacity)
     (λ p. tabulate-at capacity _ u p ∙ piecewise-out (full n) _ _ u (λ i. omega (arith, of-full n u i)))
     (λ p. List·getD-eq-default (spanRows n ws first last) 0 (omega (arith, span-length n ws first last)))
+
+-- and in the words of an array: as many as all rows have, each a word, and the same sets at their places
+pub span-words-length : (n : ℕ) (ws : List ℕ) (first last : ℕ) → length (spanWords n ws first last) ≡ rowWords
+span-words-length n ws first last = words-of-length (spanRows n ws first last) ∙ ap (λ (x : ℕ). x * setWords) (span-length n ws first last)
+
+pub span-set : (n : ℕ) (ws : List ℕ) (first last u : ℕ) → n ≤ capacity → u < n → setAt (spanWords n ws first last) u ≡ spanNeighbours n ws first last u
+span-set n ws first last u w l = set-at-sets (spanRows n ws first last) u (rw span-length (omega arith)) ∙ span-row n ws first last u w l
+
+pub span-set-none : (n : ℕ) (ws : List ℕ) (first last u : ℕ) → n ≤ u → setAt (spanWords n ws first last) u ≡ 0
+span-set-none n ws first last u l =
+    by-cases (decLt u capacity)
+    (λ p. set-at-sets (spanRows n ws first last) u (rw span-length p) ∙ span-row-none n ws first last u l)
+    (λ p. set-at-out (spanWords n ws first last) u (rw span-words-length (omega arith)))
+
+pub span-words-fit : (n : ℕ) (ws : List ℕ) (first last : ℕ) → n ≤ capacity → Words (spanWords n ws first last)
+unfolding spanNeighbours
+span-words-fit n ws first last w = words-fit (spanRows n ws first last) (λ u k. by-cases (decLt u n)
+    (λ p. rw (span-row n ws first last u w p) (lt-of-lt-of-le (set-lt n (throughout n ws first last u)) (pow-mono w)))
+    (λ p. rw (span-row-none n ws first last u (omega arith)) (lit< tt)))

@@ -3,15 +3,12 @@ use mathlib.Core.List.{List}
 use Prim.Native.Nat.{ℕ, _^_, _≤_, _<_}
 use native.Mathlib.Omega.{arith}
 use Rattle.sets.specs.Sets.{Sub, full, size}
-use Rattle.sets.specs.Members.{capacity}
 use Rattle.sets.proofs.Sets.{sub-trans, sub-lt, full-lt}
 use Rattle.sets.proofs.Size.{size-le}
-use Rattle.days.specs.Days.{LentDay}
 use Rattle.thresholds.specs.declared.Thresholds.{Thresholds}
 use Rattle.spans.specs.SpanCores.{SpanCore, Mem}
 use Rattle.spans.specs.GroupStatement.{Reportable, GroupStatement}
 use Rattle.spans.proofs.OrderSets.{order-many}
-use Rattle.spans.proofs.SpanCircles.{day-small}
 
 pub record OfDay (n T base : ℕ) (c : SpanCore) : Type 0 where
   pub low : 1 ≤ c .order
@@ -35,7 +32,7 @@ of-day {n} {T} {ws} {base} {least} r x c i =
       within = sub-trans (p .circle .circle .within) (o .within);
     }
 
--- so its members fit their 8 bytes
-pub records-small : {n T : ℕ} {ws : List ℕ} {base : ℕ} {least : Thresholds} {records : List SpanCore} → LentDay n T ws → Sub base (full n) → GroupStatement n T ws base least records
-    → (c : SpanCore) → Mem c records → c .members < 2 ^ capacity
-records-small lent r x c i = day-small lent (c .members) (sub-trans (of-day r x c i .within) r)
+-- so its members are badges below n
+pub records-small : {n T : ℕ} {ws : List ℕ} {base : ℕ} {least : Thresholds} {records : List SpanCore} → Sub base (full n) → GroupStatement n T ws base least records
+    → (c : SpanCore) → Mem c records → c .members < 2 ^ n
+records-small {n} r x c i = sub-lt n (c .members) (full n) (sub-trans (of-day r x c i .within) r) (full-lt n)

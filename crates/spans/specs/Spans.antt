@@ -7,6 +7,7 @@ use Rattle.sets.specs.Bools.{_and_, _or_, all}
 use Rattle.sets.specs.Sets.{setOf, full}
 use Rattle.sets.specs.Members.{capacity}
 use Rattle.sets.specs.Tables.{tabulate, piecewise}
+use Rattle.sets.specs.Words.{wordsOf}
 use Rattle.days.specs.Days.{LentDay, adjacent}
 
 -- first and last are a span of a day of T ticks
@@ -31,6 +32,10 @@ throughout n ws first last u v = all (suc last) (λ t. ltb t first or adjacent n
 unfoldable pub spanNeighbours : ℕ → List ℕ → ℕ → ℕ → ℕ → ℕ
 spanNeighbours n ws first last u = setOf n (throughout n ws first last u)
 
--- "The contacts that hold throughout a span are worked out as one row per badge": n rows, and empty ones for the badges from n up
+-- "The contacts that hold throughout a span are worked out as one row per badge": n rows, and empty ones for the badges from n up, as sets
 unfoldable pub spanRows : ℕ → List ℕ → ℕ → ℕ → List ℕ
 spanRows n ws first last = tabulate capacity (piecewise (full n) (spanNeighbours n ws first last) (λ u. 0))
+
+-- the words of an array that holds these rows
+abbrev pub spanWords : ℕ → List ℕ → ℕ → ℕ → List ℕ
+spanWords n ws first last = wordsOf (spanRows n ws first last)

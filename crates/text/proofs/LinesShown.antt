@@ -2,16 +2,23 @@
 use mathlib.Core.Path.{_≡_, refl, ap, _∙_}
 use mathlib.Core.List.{List, [], _∷_, map}
 use Prim.Native.Nat.{ℕ, zero, suc, _+_, _-_, _*_, _/_, _^_, _≤_, _<_}
-use native.Mathlib.Nat.{not-suc-le-zero}
+use native.Mathlib.Nat.{not-suc-le-zero, zero-add, suc-add, mul-zero, mul-suc, mul-assoc, pow-suc, mul-le-mul-left, mul-div-le}
 use native.Mathlib.Omega.{arith}
+use lib.Dec.{eqb}
 use lib.ListN.{length, getD, take, drop}
 use lib.Seq.{take-nil, getD-drop, drop-drop}
 use lib.Pow.{pow-add, pow-mono}
+use Rattle.sets.specs.Ascii.{ascii}
 use Rattle.sets.specs.Bytes.{fromLittleEndian}
+use Rattle.sets.specs.Members.{capacity}
+use Rattle.sets.specs.Tables.{keepIf}
+use Rattle.sets.specs.Words.{wordBits}
+use Rattle.sets.proofs.Blocks.{bit-low}
+use Rattle.sets.proofs.Concat.{concat-same}
 use Rattle.records.specs.Outcomes.{Outcome, refused, success}
 use Rattle.spans.specs.SpanCores.{SpanCore}
-use Rattle.spans.specs.Encoding.{decodeCore, decodeCores}
-use Rattle.text.specs.Listing.{headLine, groupLine, refusalLine, reportLines}
+use Rattle.spans.specs.Encoding.{formOf, coreBytes, recordBytes, headBadges, decodeCore, decodeCores}
+use Rattle.text.specs.Listing.{field, headLine, memberList, groupLine, refusalLine, reportLines}
 use Rattle.text.specs.Calls.{shownLines}
 use Rattle.text.specs.Making.{lineCount}
 
@@ -20,49 +27,79 @@ pub lines-length : (cs : List SpanCore) → length (map groupLine cs) ≡ length
 lines-length [] = refl
 lines-length (c ∷ cs) = ap suc (lines-length cs)
 
-pub decode-length : (k : ℕ) (bytes : List ℕ) → length (decodeCores k bytes) ≡ k
+pub decode-length : (w k : ℕ) (bytes : List ℕ) → length (decodeCores w k bytes) ≡ k
 unfolding decodeCores
-decode-length zero bytes = refl
-decode-length (suc k) bytes = ap suc (decode-length k (drop 13 bytes))
+decode-length w zero bytes = refl
+decode-length w (suc k) bytes = ap suc (decode-length w k (drop (coreBytes w) bytes))
 
-decode-at : (f : SpanCore → List ℕ) (k : ℕ) (bytes : List ℕ) (i : ℕ) → i < k → getD (map f (decodeCores k bytes)) i [] ≡ f (decodeCore (drop (13 * i) bytes))
+decode-at : (f : SpanCore → List ℕ) (w k : ℕ) (bytes : List ℕ) (i : ℕ) → i < k → getD (map f (decodeCores w k bytes)) i [] ≡ f (decodeCore w (drop (coreBytes w * i) bytes))
 unfolding decodeCores
-decode-at f zero bytes i h = absurd (not-suc-le-zero h)
-decode-at f (suc k) bytes zero h = refl
-decode-at f (suc k) bytes (suc i) h =
-    let e : 13 + 13 * i ≡ 13 * suc i = omega arith in
-    decode-at f k (drop 13 bytes) i (omega arith) ∙ ap (λ (bs : List ℕ). f (decodeCore bs)) (drop-drop (13 * i) 13 bytes ∙ ap (λ (m : ℕ). drop m bytes) e)
+decode-at f w zero bytes i h = absurd (not-suc-le-zero h)
+decode-at f w (suc k) bytes zero h = rw (mul-zero (coreBytes w))
+decode-at f w (suc k) bytes (suc i) h =
+    let r = coreBytes w in
+    let e : r + r * i ≡ r * suc i = omega (arith, mul-suc r i) in
+    decode-at f w k (drop r bytes) i (omega arith) ∙ ap (λ (bs : List ℕ). f (decodeCore w bs)) (drop-drop (r * i) r bytes ∙ ap (λ (m : ℕ). drop m bytes) e)
 
 -- how many lines there are
-pub shown-count : (o : Outcome ℕ) (report : List ℕ) → length (shownLines o report) ≡ lineCount o
+pub shown-count : (o : Outcome ℕ) (report : List ℕ) → length (shownLines o report) ≡ lineCount o report
 unfolding shownLines reportLines
 shown-count (refused number offset) report = refl
-shown-count (success size) report = ap suc (lines-length (decodeCores ((size - 10) / 13) (drop 4 report)) ∙ decode-length ((size - 10) / 13) (drop 4 report))
+shown-count (success size) report =
+    let w = formOf (headBadges report) .setBytes in
+    let k = (size - 10) / coreBytes w in
+    ap suc (lines-length (decodeCores w k (drop 4 report)) ∙ decode-length w k (drop 4 report))
 
 -- the line of a refusal
-pub refusal-shown : (number offset : ℕ) (report : List ℕ) (i : ℕ) → i < lineCount (refused number offset) → getD (shownLines (refused number offset) report) i [] ≡ refusalLine number offset
+pub refusal-shown : (number offset : ℕ) (report : List ℕ) (i : ℕ) → i < lineCount (refused number offset) report → getD (shownLines (refused number offset) report) i [] ≡ refusalLine number offset
 unfolding shownLines
 refusal-shown number offset report zero h = refl
 refusal-shown number offset report (suc i) h = absurd (omega arith)
 
-module _ (size : ℕ) (report : List ℕ) where
-  -- the first line, and that of a record
-  pub shown-head : getD (shownLines (success size) report) 0 [] ≡ headLine (getD report 2 0) (getD report 3 0) ((size - 10) / 13)
+module _ (size : ℕ) (report : List ℕ) {w : ℕ} (same : w ≡ formOf (headBadges report) .setBytes) where
+  -- the first line,
+  pub shown-head : getD (shownLines (success size) report) 0 [] ≡ headLine (getD report 2 0) (getD report 3 0) ((size - 10) / coreBytes w)
   unfolding shownLines reportLines
-  shown-head = rw (decode-length ((size - 10) / 13) (drop 4 report))
+  shown-head = rw (same, decode-length (formOf (headBadges report) .setBytes) ((size - 10) / recordBytes (headBadges report)) (drop 4 report))
 
-  pub shown-record : (i : ℕ) → 1 ≤ i → i < lineCount (success size) → getD (shownLines (success size) report) i [] ≡ groupLine (decodeCore (drop (13 * i - 9) report))
+  -- that of a record,
+  pub shown-record : (i : ℕ) → 1 ≤ i → i < lineCount (success size) report → getD (shownLines (success size) report) i [] ≡ groupLine (decodeCore w (drop (4 + coreBytes w * (i - 1)) report))
   unfolding shownLines reportLines
   shown-record zero l h = absurd (omega arith)
   shown-record (suc i) l h =
-      let e : 4 + 13 * i ≡ 13 * suc i - 9 = omega arith in
-      decode-at groupLine ((size - 10) / 13) (drop 4 report) i (omega arith) ∙ ap (λ (bs : List ℕ). groupLine (decodeCore bs)) (drop-drop (13 * i) 4 report ∙ ap (λ (m : ℕ). drop m report) e)
+      let e : suc i - 1 ≡ i = omega arith in
+      rw (same, e) (decode-at groupLine (formOf (headBadges report) .setBytes) ((size - 10) / recordBytes (headBadges report)) (drop 4 report) i (omega arith) ∙ ap (λ (bs : List ℕ). groupLine (decodeCore (formOf (headBadges report) .setBytes) bs)) (drop-drop (recordBytes (headBadges report) * i) 4 report))
 
--- the record at a place, by the bytes of the report
-pub record-at : (report : List ℕ) (at : ℕ) {order first last members : ℕ} → order ≡ getD report (at + 2) 0 → first ≡ getD report (at + 3) 0 → last ≡ getD report (at + 4) 0
-    → members ≡ fromLittleEndian (take 8 (drop (at + 5) report)) → decodeCore (drop at report) ≡ record { order = order; first = first; last = last; members = members }
-unfolding decodeCore
-record-at report at e f g h = rw (e, f, g, h, getD-drop at report 2 0, getD-drop at report 3 0, getD-drop at report 4 0, drop-drop 5 at report)
+  -- and the record is within the report
+  pub record-inside : (i : ℕ) → 1 ≤ i → i < lineCount (success size) report → 4 + coreBytes w * (i - 1) + coreBytes w ≤ size
+  record-inside i l h =
+      let r = coreBytes w in
+      let k : i ≤ (size - 10) / r = rw same (omega (arith, h)) in
+      let e : suc (i - 1) ≡ i = omega arith in
+      let m : r * suc (i - 1) ≡ r * i = ap (λ (x : ℕ). r * x) e in
+      omega (arith, l, k, m, mul-suc r (i - 1), mul-le-mul-left r k, mul-div-le (size - 10) r, mul-le-mul-left r l)
+
+-- A set of one word holds the lower 8 of a set's bytes, and the others say no badge that it could hold.
+from-split : (v k : ℕ) (xs : List ℕ) → fromLittleEndian (take (v + k) xs) ≡ fromLittleEndian (take k (drop v xs)) * 256 ^ v + fromLittleEndian (take v xs)
+unfolding fromLittleEndian
+from-split zero k xs = rw zero-add (omega arith)
+from-split (suc v) k [] = rw (take-nil {A = ℕ} k, take-nil {A = ℕ} (suc v + k)) (omega arith)
+from-split (suc v) k (x ∷ xs) =
+    let e : fromLittleEndian (take k (drop v xs)) * 256 ^ suc v ≡ fromLittleEndian (take k (drop v xs)) * 256 ^ v * 256 = rw (pow-suc, mul-assoc) in
+    rw suc-add (omega (arith, from-split v k xs, e))
+
+lower-members : (w : ℕ) (xs : List ℕ) → 8 ≤ w → memberList (fromLittleEndian (take w xs)) ≡ memberList (fromLittleEndian (take 8 xs))
+unfolding memberList
+lower-members w xs h =
+    let e : w ≡ 8 + (w - 8) = omega arith in
+    let split : fromLittleEndian (take w xs) ≡ fromLittleEndian (take (w - 8) (drop 8 xs)) * 256 ^ 8 + fromLittleEndian (take 8 xs) = ap (λ (k : ℕ). fromLittleEndian (take k xs)) e ∙ from-split 8 (w - 8) xs in
+    rw split (concat-same capacity _ _ (λ u l. ap (λ (b : ℕ). keepIf (eqb b 1) (field (ascii " ") u)) (bit-low wordBits (fromLittleEndian (take (w - 8) (drop 8 xs))) (fromLittleEndian (take 8 xs)) u l)))
+
+-- so the line of the record at a place is known by the bytes of the report
+pub record-at : (report : List ℕ) (at w : ℕ) {order first last members : ℕ} → 8 ≤ w → order ≡ getD report (at + 2) 0 → first ≡ getD report (at + 3) 0 → last ≡ getD report (at + 4) 0
+    → members ≡ fromLittleEndian (take 8 (drop (at + 5) report)) → groupLine (decodeCore w (drop at report)) ≡ groupLine (record { order = order; first = first; last = last; members = members })
+unfolding decodeCore groupLine
+record-at report at w l e f g h = rw (e, f, g, h, getD-drop at report 2 0, getD-drop at report 3 0, getD-drop at report 4 0, drop-drop 5 at report, lower-members w (drop (at + 5) report) l)
 
 -- A loop over eight bytes, the highest first: the number that those from byte i on say.
 word-step : (k j : ℕ) (bytes : List ℕ) → fromLittleEndian (take (suc k) (drop j bytes)) ≡ fromLittleEndian (take k (drop (suc j) bytes)) * 256 + getD bytes j 0

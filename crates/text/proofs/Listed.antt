@@ -4,16 +4,17 @@ use mathlib.Core.Path.{_≡_, refl, sym, ap, _∙_}
 use mathlib.Core.Bool.{true}
 use mathlib.Core.List.{List, [], _∷_, _++_, append-assoc, append-nil}
 use mathlib.Core.Logic.{by-cases}
-use Prim.Native.Nat.{ℕ, _-_, _/_, _^_, _≤_, _<_, min}
-use native.Mathlib.Nat.{le-of-eq}
+use Prim.Native.Nat.{ℕ, _-_, _*_, _/_, _^_, _≤_, _<_, min}
+use native.Mathlib.Nat.{le-of-eq, mul-div-right}
 use native.Mathlib.Decide.{decLt}
 use native.Mathlib.Omega.{arith}
-use lib.ListN.{length, drop}
+use lib.ListN.{length, drop, length-append}
+use lib.Seq.{drop-at}
 use borrow.Author.Tests.{lt-ltb, le-ltb}
-use Rattle.sets.specs.Ascii.{ascii}
 use Rattle.sets.specs.Bools.{_and_}
 use Rattle.sets.specs.Sets.{full}
 use Rattle.sets.specs.Members.{capacity}
+use Rattle.sets.specs.Words.{wordBits}
 use Rattle.sets.proofs.Sets.{sub-refl}
 use Rattle.records.specs.declared.record.Record.{Record}
 use Rattle.records.specs.declared.record.Record.the-variants.{End}
@@ -33,10 +34,11 @@ use Rattle.days.proofs.ReadCall.{read-refused, read-success}
 use Rattle.log.specs.Buffers.{Delivered}
 use Rattle.thresholds.specs.Ranges.{plain, inRange}
 use Rattle.spans.specs.SpanCores.{SpanCore, Mem}
-use Rattle.spans.specs.Encoding.{encodeCores, reportBytes}
+use Rattle.spans.specs.Encoding.{formOf, recordBytes, encodeCores, reportBytes}
 use Rattle.spans.proofs.CircleStated.{report-stated}
 use Rattle.spans.proofs.StatedRecords.{records-small}
-use Rattle.spans.proofs.Decoding.{decode-cores}
+use Rattle.spans.proofs.Forms.{marked, form-fits}
+use Rattle.spans.proofs.Decoding.{decode-cores, report-sizes}
 use Rattle.spans.proofs.MostGroups.{report-length}
 use Rattle.spans.proofs.Reviews.{all-reviewed}
 use Rattle.groups.specs.Calls.{reportOf}
@@ -67,13 +69,22 @@ module _ (n T : ℕ) (groups : List SpanCore) where
   listed-fits h = rw (listedLines, le-ltb listingRoom (length (reportBytes n T groups)) h)
 
 -- the lines that a report's bytes show, whatever follows them
-report-shown : (n T : ℕ) (groups : List SpanCore) (rest : List ℕ) → ((c : SpanCore) → Mem c groups → c .members < 2 ^ 64)
+report-shown : (n T : ℕ) (groups : List SpanCore) (rest : List ℕ) → n ≤ 2 * wordBits → ((c : SpanCore) → Mem c groups → c .members < 2 ^ n)
     → shownLines (success (length (reportBytes n T groups))) (reportBytes n T groups ++ rest) ≡ reportLines n T groups
 unfolding shownLines reportBytes
-report-shown n T groups rest h =
-    let count : (length (reportBytes n T groups) - 10) / 13 ≡ length groups = omega (arith, report-length n T groups) in
-    let said = decode-cores (ascii "GR") refl groups (encode (End (length groups)) ++ rest) h in
-    rw (count, append-assoc (encodeCores (ascii "GR") groups) (encode (End (length groups))) rest, said)
+report-shown n T groups rest most h =
+    let form = formOf n in
+    let r = recordBytes n in
+    let bytes = reportBytes n T groups in
+    let header = form .report ++ (n ∷ T ∷ []) in
+    let records = encodeCores (form .setBytes) (form .group) groups in
+    let long : length header ≡ 4 = omega (arith, length-append (form .report) (n ∷ T ∷ []), marked n .report) in
+    let less : length bytes - 10 ≡ r * length groups = omega (arith, report-length n T groups) in
+    let count : (length bytes - 10) / r ≡ length groups = ap (λ (x : ℕ). x / r) less ∙ mul-div-right (length groups) (omega arith) in
+    let after : drop 4 (bytes ++ rest) ≡ records ++ (encode (End (length groups)) ++ rest) = rw (append-assoc header (records ++ encode (End (length groups))) rest, drop-at header ((records ++ encode (End (length groups))) ++ rest) 4 long) (append-assoc records (encode (End (length groups))) rest) in
+    let said = decode-cores (form .setBytes) (form .group) (marked n .group) groups (encode (End (length groups)) ++ rest) (λ c i. form-fits n (c .members) most (h c i)) in
+    let sizes = report-sizes n T groups rest in
+    rw (sizes .0, sizes .1, count, after, said)
 
 -- an accepted log, its day and its report
 module _ (log : List ℕ) (rs : List Record) (e : judge log ≡ success rs) where
@@ -128,7 +139,7 @@ module _ (log : List ℕ) (rs : List Record) (e : judge log ≡ success rs) wher
     unfolding shownLines listedGroups
     accepted-lines k = by-cases (decLt (length report) (length bytes))
         (λ l. rw (accepted-measured l) (sym (listed-long n T (listedGroups rs) (omega arith))))
-        (λ l. rw (accepted-made (omega arith), report-shown n T (listedGroups rs) (drop (length bytes) report) (records-small accepted-lent (sub-refl (full n)) (report-stated accepted-lent (sub-refl (full n))))) (sym (listed-fits n T (listedGroups rs) (omega arith))))
+        (λ l. rw (accepted-made (omega arith), report-shown n T (listedGroups rs) (drop (length bytes) report) (omega (arith, limits-of (accepted-lent .limits) .few)) (records-small (sub-refl (full n)) (report-stated accepted-lent (sub-refl (full n))))) (sym (listed-fits n T (listedGroups rs) (omega arith))))
 
 module _ (log words report : List ℕ) where
   -- a log that is refused is refused alike

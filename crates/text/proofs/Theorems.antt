@@ -4,6 +4,7 @@ use mathlib.Core.Path.{_≡_, refl, sym, ap, _∙_, subst}
 use mathlib.Core.List.{List, [], _∷_, _++_, map, append-assoc, List·Memᴰ, List·Memᴰ·head, List·Memᴰ·tail, List·Memᴰ·not-nil, List·Memᴰ·eq-of-singleton, Memᴰ·append-right}
 use mathlib.Core.Logic.{_↔_, _⊎_, inl, inr, by-cases}
 use Prim.Native.Nat.{ℕ, zero, suc, _+_, _≤_, _<_}
+use native.Mathlib.Nat.{mul-le-mul-right}
 use native.Mathlib.Decide.{decLe, decLt}
 use native.Mathlib.Omega.{arith}
 use lib.ListN.{length, take, drop, length-take, length-drop, take-append-drop, drop-of-length-le}
@@ -23,10 +24,11 @@ use Rattle.days.specs.Days.{dayOf, LentDay}
 use Rattle.thresholds.specs.declared.Thresholds.{Thresholds}
 use Rattle.thresholds.specs.Ranges.{plain}
 use Rattle.spans.specs.SpanCores.{SpanCore, Mem}
-use Rattle.spans.specs.Encoding.{maxReportBytes, reportBytes}
+use Rattle.spans.specs.Encoding.{maxReportBytes, recordBytes, reportBytes}
 use Rattle.spans.specs.GroupStatement.{GroupStatement}
 use Rattle.spans.proofs.CircleStated.{report-stated}
 use Rattle.spans.proofs.StatedRecords.{of-day}
+use Rattle.spans.proofs.Forms.{marked}
 use Rattle.spans.proofs.MostGroups.{report-length}
 use Rattle.spans.proofs.MostRecords.{report-most}
 use Rattle.text.specs.Listing.{refusalLine, groupLine, reportLines, listingRoom, listedLines, listedGroups, judgedLines, joined, listing}
@@ -95,7 +97,9 @@ of-lines (c ∷ cs) (List·Memᴰ·tail m) = let r = of-lines cs m in (r .0, Lis
 -- No line of a report for which there is room has more than 320 bytes,
 module _ {n T : ℕ} {ws : List ℕ} {base : ℕ} {least : Thresholds} {groups : List SpanCore} (lent : LentDay n T ws) (within : Sub base (full n)) (stated : GroupStatement n T ws base least groups) (fits : length (reportBytes n T groups) ≤ listingRoom) where
   few-groups : suc (length groups) ≤ mostLines
-  few-groups = omega (arith, report-length n T groups)
+  few-groups =
+      let least : 13 ≤ recordBytes n = omega (arith, marked n .least) in
+      omega (arith, report-length n T groups, fits, mul-le-mul-right (length groups) least)
 
   group-line-short : (c : SpanCore) → Mem c groups → length (groupLine c) ≤ lineRoom
   group-line-short c i =

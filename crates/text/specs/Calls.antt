@@ -12,7 +12,7 @@ use Rattle.records.specs.Verdicts.{Values}
 use Rattle.days.specs.Calls.{readOf}
 use Rattle.log.specs.Buffers.{Delivered}
 use Rattle.thresholds.specs.Ranges.{plain}
-use Rattle.spans.specs.Encoding.{reportBytes, decodeCores}
+use Rattle.spans.specs.Encoding.{formOf, recordBytes, headBadges, reportBytes, decodeCores}
 use Rattle.groups.specs.Calls.{reportOf}
 use Rattle.text.specs.Listing.{refusalLine, reportLines, listedGroups}
 
@@ -33,11 +33,12 @@ prepareOf log words report = record {
   report = reported (readOf log words .answer) (readOf log words .words) report .buffer;
 }
 
--- the lines that the answer to prepare shows, with the report that it left: n and T stand in its third and fourth byte, and records of 13 bytes
--- between a header of 4 bytes and an end of 6
+-- the lines that the answer to prepare shows, with the report that it left: n and T stand in its third and fourth byte, and records, whose bytes n
+-- decides, between a header of 4 bytes and an end of 6
 unfoldable pub shownLines : Outcome ℕ → List ℕ → List (List ℕ)
 shownLines (refused number offset) report = refusalLine number offset ∷ []
-shownLines (success size) report = reportLines (getD report 2 0) (getD report 3 0) (decodeCores ((size - 10) / 13) (drop 4 report))
+shownLines (success size) report =
+    reportLines (headBadges report) (getD report 3 0) (decodeCores (formOf (headBadges report) .setBytes) ((size - 10) / recordBytes (headBadges report)) (drop 4 report))
 
 -- When prepare is refused by 9: the log is accepted, and its report has more bytes than there is room for.
 pub record Longer (log : List ℕ) (room : ℕ) : Type 0 where

@@ -4,6 +4,7 @@ use mathlib.Core.Path.{_≡_}
 use Prim.Native.Nat.{ℕ, suc, _+_, _-_, _/_, _≤_, _<_}
 use lib.ListN.{length, take, drop}
 use Rattle.records.specs.Outcomes.{Outcome, refused, success}
+use Rattle.spans.specs.Encoding.{recordBytes, headBadges}
 use Rattle.text.specs.Decimal.{decimal}
 
 -- room for any line, and for the digits of any number
@@ -13,7 +14,8 @@ lineRoom = 320
 abbrev pub digitRoom : ℕ
 digitRoom = 20
 
--- the most lines of a listing: the first, and one for each of 5,040 records of 13 bytes, since 65,536 bytes hold no more of them and 10 others
+-- the most lines of a listing: the first, and one for each of 5,040 records of 13 bytes, since 65,536 bytes hold no more of them and 10 others; and
+-- fewer where records have 21 bytes
 abbrev pub mostLines : ℕ
 mostLines = 5041
 
@@ -35,7 +37,8 @@ pub record Makes (bytes : List ℕ) (count : ℕ) (line′ : List ℕ) : Type 0 
   pub inside : count ≤ lineRoom
   pub front : take count line′ ≡ bytes
 
--- how many lines an answer shows: one for a refusal, and else one for each record that the size has room for, and the first
-abbrev pub lineCount : Outcome ℕ → ℕ
-lineCount (refused number offset) = 1
-lineCount (success size) = suc ((size - 10) / 13)
+-- how many lines an answer shows, with the report that it left: one for a refusal, and else one for each record that the size has room for, and the
+-- first
+abbrev pub lineCount : Outcome ℕ → List ℕ → ℕ
+lineCount (refused number offset) report = 1
+lineCount (success size) report = suc ((size - 10) / recordBytes (headBadges report))

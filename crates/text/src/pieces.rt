@@ -22,7 +22,7 @@ pub fn lines(answer: Written, report: &[u8], from: usize, buffer: &mut [u8]) -> 
     ensures bytes { λ r. ⌜ r .bytes ≡ pieceOf (shownLines (writtenOutcome answer) (now (report .entry))) from (now (buffer .entry)) .bytes ⌝ }
     ensures leaves { λ _. ⌜ now (buffer .exit) ≡ pieceOf (shownLines (writtenOutcome answer) (now (report .entry))) from (now (buffer .entry)) .buffer ⌝ }
 {
-    let count = line_count(answer);
+    let count = line_count(answer, report);
     let mut line = [0u8; 320];
     let mut next = from;
     let mut at: usize = 0;

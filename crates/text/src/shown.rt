@@ -1,11 +1,11 @@
 // The lines that an answer shows, by their place.
 ghost use mathlib.Core.Path.{_≡_};
 ghost use mathlib.Core.List.{[]};
-ghost use Prim.Native.Nat.{_+_, _-_, _/_, _^_, _<_};
+ghost use Prim.Native.Nat.{_+_, _-_, _/_, _^_, _≤_, _<_};
 ghost use lib.ListN.{length, getD, take, drop};
 ghost use Rattle.sets.specs.Bytes.{fromLittleEndian};
 ghost use Rattle.records.specs.Outcomes.{success};
-ghost use Rattle.spans.specs.Encoding.{decodeCore};
+ghost use Rattle.spans.specs.Encoding.{formOf, coreBytes, headBadges, decodeCore};
 ghost use Rattle.groups.specs.Refusals.{writtenOutcome};
 ghost use Rattle.text.specs.Listing.{groupLine};
 ghost use Rattle.text.specs.Calls.{shownLines};
@@ -14,7 +14,9 @@ use crate::line::group_line;
 use crate::line::head_line;
 use crate::line::refusal_line;
 use groups::Written;
+use groups::set_bytes;
 use sets::BadgeSet;
+use sets::widen;
 
 // The byte at a place, 0 after the last.
 fn byte_at(bytes: &[u8], at: usize) -> u8
@@ -40,10 +42,18 @@ fn word_at(bytes: &[u8], at: usize) -> u64
     word
 }
 
-// Makes the line of the group whose record stands at a place of a report.
-fn record_line(report: &[u8], at: usize, line: &mut [u8]) -> usize
-    requires { ⌜ (at + 13 < 2 ^ 64) × (length (now line) ≡ lineRoom) ⌝ }
-    ensures { λ r. ⌜ Makes (groupLine (decodeCore (drop at (now (report .entry))))) r (now (line .exit)) ⌝ }
+// The bytes of a set in a report, whose third byte says how many badges there are.
+fn width_of(report: &[u8]) -> usize
+    ensures { λ r. ⌜ r ≡ formOf (headBadges (now (report .entry))) .setBytes ⌝ }
+    ensures { λ r. ⌜ (8 ≤ r) × (r ≤ 16) ⌝ }
+{
+    set_bytes(widen(byte_at(report, 2)))
+}
+
+// Makes the line of the group whose record, with a set of so many bytes, stands at a place of a report. A set of one word holds the lower 8 bytes.
+fn record_line(report: &[u8], at: usize, width: usize, line: &mut [u8]) -> usize
+    requires { ⌜ (8 ≤ width) × (at + coreBytes width < 2 ^ 64) × (length (now line) ≡ lineRoom) ⌝ }
+    ensures { λ r. ⌜ Makes (groupLine (decodeCore width (drop at (now (report .entry))))) r (now (line .exit)) ⌝ }
 {
     let order = byte_at(report, at + 2);
     let first = byte_at(report, at + 3);
@@ -52,45 +62,47 @@ fn record_line(report: &[u8], at: usize, line: &mut [u8]) -> usize
     group_line(order, first, last, members, line)
 }
 
-// How many records a report of so many bytes has.
-fn record_count(size: usize) -> usize
-    ensures { λ r. ⌜ r ≡ (size - 10) / 13 ⌝ }
+// How many records, with sets of so many bytes, a report of so many bytes has.
+fn record_count(size: usize, width: usize) -> usize
+    requires { ⌜ width ≤ 16 ⌝ }
+    ensures { λ r. ⌜ r ≡ (size - 10) / coreBytes width ⌝ }
 {
     if size < 10 {
         return 0;
     }
-    (size - 10) / 13
+    (size - 10) / (5 + width)
 }
 
-// How many lines an answer shows.
-pub(crate) fn line_count(answer: Written) -> usize
-    ensures { λ r. ⌜ r ≡ lineCount (writtenOutcome answer) ⌝ }
+// How many lines an answer shows, with the report that it left.
+pub(crate) fn line_count(answer: Written, report: &[u8]) -> usize
+    ensures { λ r. ⌜ r ≡ lineCount (writtenOutcome answer) (now (report .entry)) ⌝ }
 {
     match answer {
         Written::Refused(_) => 1,
-        Written::Bytes(size) => record_count(size) + 1,
+        Written::Bytes(size) => record_count(size, width_of(report)) + 1,
     }
 }
 
 // Makes a line of a report of so many bytes: the first, or that of a record.
 fn report_line(size: usize, report: &[u8], i: usize, line: &mut [u8]) -> usize
-    requires { ⌜ (i < lineCount (success size)) × (length (now line) ≡ lineRoom) ⌝ }
+    requires { ⌜ (i < lineCount (success size) (now report)) × (length (now line) ≡ lineRoom) ⌝ }
     ensures { λ r. ⌜ Makes (getD (shownLines (success size) (now (report .entry))) i []) r (now (line .exit)) ⌝ }
 {
+    let width = width_of(report);
     if i == 0 {
         return head_line(
             byte_at(report, 2),
             byte_at(report, 3),
-            record_count(size),
+            record_count(size, width),
             line,
         );
     }
-    record_line(report, 13 * i - 9, line)
+    record_line(report, 4 + (5 + width) * (i - 1), width, line)
 }
 
 // Makes the line at a place, of those that an answer shows, and answers how many bytes it has.
 pub(crate) fn make_line(answer: Written, report: &[u8], i: usize, line: &mut [u8]) -> usize
-    requires { ⌜ (i < lineCount (writtenOutcome answer)) × (length (now line) ≡ lineRoom) ⌝ }
+    requires { ⌜ (i < lineCount (writtenOutcome answer) (now report)) × (length (now line) ≡ lineRoom) ⌝ }
     ensures { λ r. ⌜ Makes (getD (shownLines (writtenOutcome answer) (now (report .entry))) i []) r (now (line .exit)) ⌝ }
 {
     match answer {

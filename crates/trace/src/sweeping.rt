@@ -24,28 +24,30 @@ fn clear(trace: &mut [u8])
     }
 }
 
-// Those of the set at a place that pass on.
-fn sources_at(words: &[u64], i: usize, passing: BadgeSet) -> BadgeSet
+// The set at a place. The place is known to be there: a test of it would take longer than the rest of a turn.
+fn row_at(words: &[u64], i: usize) -> BadgeSet
     requires { ⌜ i < places (now words) ⌝ }
-    ensures { λ r. ⌜ members r ≡ intersection (setAt (now (words .entry)) i) (members passing) ⌝ }
+    ensures { λ r. ⌜ members r ≡ setAt (now (words .entry)) i ⌝ }
 {
-    BadgeSet::from_word(words[i * SET_WORDS]).intersection(passing)
+    BadgeSet::from_word(words[i * SET_WORDS])
 }
 
-// The turn of a badge that was not reached before tick t, with those in contact with it that pass on: where there are some it is reached, and gets the tick,
-// and the smallest of these as its source. Gives the set of those reached, with it.
+// The turn of a badge that was not reached before tick t, with those in contact with it: where some of them pass on it is reached, and gets the tick, and
+// the smallest of these as its source. Gives the set of those reached, with it.
 fn reach(
     trace: &mut [u8],
     n: usize,
     u: usize,
     t: u8,
-    sources: BadgeSet,
+    row: BadgeSet,
+    passing: BadgeSet,
     reached: BadgeSet,
 ) -> BadgeSet
     requires { ⌜ (u < n) × (n ≤ capacity) × (length (now trace) ≡ n + n) ⌝ }
-    ensures reached { λ r. ⌜ members r ≡ reachedBy (members sources) (members reached) u ⌝ }
-    ensures leaves { λ _. ⌜ now (trace .exit) ≡ shown n (members sources) u t (now (trace .entry)) ⌝ }
+    ensures reached { λ r. ⌜ members r ≡ reachedBy (intersection (members row) (members passing)) (members reached) u ⌝ }
+    ensures leaves { λ _. ⌜ now (trace .exit) ≡ shown n (intersection (members row) (members passing)) u t (now (trace .entry)) ⌝ }
 {
+    let sources = row.intersection(passing);
     if sources.is_empty() {
         return reached;
     }
@@ -71,8 +73,8 @@ fn pass_tick(
     let mut unseen = BadgeSet::full(n).difference(passing);
     while !unseen.is_empty() {
         let u = unseen.smallest();
-        let sources = sources_at(words, base + u, passing);
-        let next = reach(trace, n, u, t, sources, reached);
+        let row = row_at(words, base + u);
+        let next = reach(trace, n, u, t, row, passing, reached);
         reached = next;
         let rest = unseen.rest();
         unseen = rest;

@@ -1,47 +1,46 @@
--- `circle_of` meets its contract. Who is reached is joined to the smallest member, and who is seen has no neighbour that is unreached; where nobody is
--- unreached, or nobody is reached and unseen, the circle is reached. The walk ends as the unseen members get fewer.
-use mathlib.Core.Path.{_≡_, sym, _∙_}
-use Prim.Native.Nat.{_^_, _<_}
+-- `circle_of` meets its contract. Who is reached is joined to the smallest member, and who is reached and not on the frontier has no neighbour that is
+-- unreached; where nobody is unreached, or nobody is on the frontier, the circle is reached. The walk ends as those on the frontier and unreached get fewer.
+use mathlib.Core.Path.{_≡_, ap, _∙_}
+use Prim.Native.Nat.{ℕ, _^_, _<_}
 use native.Mathlib.Omega.{arith}
 use borrow.Author.Needs.{needs}
-use Rattle.sets.specs.Sets.{In, difference, size, smallest}
+use Rattle.sets.specs.Sets.{In, intersection, union, difference, only, size, smallest}
 use Rattle.sets.specs.Members.{capacity, members}
-use Rattle.sets.proofs.Sets.{of-difference}
-use Rattle.sets.proofs.Size.{size-without}
+use Rattle.sets.proofs.Sets.{sub-lt}
+use Rattle.sets.proofs.Walks.{rest-is}
 use Rattle.cores.specs.Rows.{graph}
-use Rattle.circles.proofs.Walking.{Walks, walk-start, walk-more, walk-first, walk-all, some-open, none-open}
+use Rattle.circles.proofs.Walking.{Walks, walk-start, walk-more, walk-less, walk-first, walk-all, some-open, none-open}
 use Rattle.circles.proofs.circle_of.Statement.{statement}
 use Rattle.circles.proofs.circle_of.Tie as tie
 
 abbrev Inv-loop : tie.InvT-loop
-Inv-loop rows s unseen₀ unreached₀ unseen unreached = Walks (graph rows) (members s) (smallest capacity (members s)) (members unreached) (members unseen)
+Inv-loop rows s unreached₀ frontier₀ unreached frontier = Walks (graph rows) (members s) (smallest capacity (members s)) (members unreached) (members frontier)
 
 abbrev μ-loop : tie.MeasureT-loop
-μ-loop rows s unseen₀ unreached₀ unseen unreached = size (members unseen)
+μ-loop rows s unreached₀ frontier₀ unreached frontier = size (union (members frontier) (members unreached))
 
--- the badge at hand is reached and unseen, and below the capacity
-at-hand : (i : tie.After-smallest Inv-loop μ-loop) →
-    let l = i .before .before .before .before .before .before .loop in
-    In (difference (members (l .unseen)) (members (l .unreached))) (i .smallest .result) × (i .smallest .result < capacity)
+-- the badge at hand is on the frontier
+at-hand : (i : tie.After-smallest Inv-loop μ-loop) → In (members (i .before .before .before .before .before .loop .frontier)) (i .smallest .result)
 at-hand i =
-    let d = i .before .before .before in
-    let known : members (d .difference .result) < 2 ^ capacity = omega arith in
-    rw (d .difference .ensures) at (some-open known (i .before .before .is-empty2 .ensures) (i .before .if2 .left) (i .smallest .ensures))
+    let e = i .before in
+    let l = e .before .before .before .before in
+    let known : members (l .before .before .before .args .s) < 2 ^ capacity = omega arith in
+    some-open (sub-lt capacity _ _ (l .loop .inv .subset) known) (e .before .is-empty2 .ensures) (e .if2 .left) (i .smallest .ensures) .0
 
 rest-requires : tie.Need-rest-requires Inv-loop μ-loop
 rest-requires c κs = search needs
 
+difference-requires : tie.Need-difference-requires Inv-loop μ-loop
+difference-requires c κs = search needs
+
 loop-holds : tie.Need-loop-holds Inv-loop μ-loop
-loop-holds c = rw (c .rest .ensures) (walk-start _ _ _)
+loop-holds c = rw (c .difference .ensures, c .before .rest .ensures) (walk-start _ _ _)
 
 is-empty-requires : tie.Need-is-empty-requires Inv-loop μ-loop
 is-empty-requires c κs = search needs
 
 returns : tie.Need-returns Inv-loop μ-loop
 returns c = walk-all (c .before .before .loop .inv) (none-open (c .before .is-empty .ensures) (c .if1 .taken))
-
-difference-requires : tie.Need-difference-requires Inv-loop μ-loop
-difference-requires c κs = search needs
 
 is-empty-requires-2 : tie.Need-is-empty-requires-2 Inv-loop μ-loop
 is-empty-requires-2 c κs = search needs
@@ -51,37 +50,53 @@ difference-requires-2 c κs = search needs
 
 returns-2 : tie.Need-returns-2 Inv-loop μ-loop
 returns-2 c =
-    let d = c .before .before .before in
-    let l = d .before .before .before .loop in
-    let e : difference (members (l .unseen)) (members (l .unreached)) ≡ 0 = sym (d .difference .ensures) ∙ none-open (c .before .before .is-empty2 .ensures) (c .before .if2 .taken) in
-    c .difference2 .ensures ∙ walk-first (l .inv) e
+    let t = c .before in
+    c .difference2 .ensures ∙ walk-first (t .before .before .before .before .loop .inv) (none-open (t .before .is-empty2 .ensures) (t .if2 .taken))
 
 smallest-requires : tie.Need-smallest-requires Inv-loop μ-loop
 smallest-requires c κs = search needs
 
-mul-from-word : tie.Need-mul-from-word Inv-loop μ-loop
-mul-from-word c = omega (arith, at-hand c .1)
+set-at-requires : tie.Need-set-at-requires Inv-loop μ-loop
+set-at-requires c κs = search needs
 
-element-copy-out-from-word : tie.Need-element-copy-out-from-word Inv-loop μ-loop
-element-copy-out-from-word c = omega (arith, at-hand c .1)
-
-from-word-requires : tie.Need-from-word-requires Inv-loop μ-loop
-from-word-requires c κs = search needs
+intersection-requires : tie.Need-intersection-requires Inv-loop μ-loop
+intersection-requires c κs = search needs
 
 difference-requires-3 : tie.Need-difference-requires-3 Inv-loop μ-loop
 difference-requires-3 c κs = search needs
 
-without-requires : tie.Need-without-requires Inv-loop μ-loop
-without-requires c κs = search needs
+rest-requires-2 : tie.Need-rest-requires-2 Inv-loop μ-loop
+rest-requires-2 c κs = search needs
+
+union-requires : tie.Need-union-requires Inv-loop μ-loop
+union-requires c κs = search needs
+
+-- its neighbours that are unreached, those unreached after its turn, and those on the frontier then
+met-is : (c : tie.After-intersection Inv-loop μ-loop) →
+    let i = c .before .before .before in
+    let l = i .before .before .before .before .before in
+    members (c .intersection .result) ≡ intersection (graph (l .before .before .before .args .rows .now) (i .smallest .result)) (members (l .loop .unreached))
+met-is c =
+    let l = c .before .before .before .before .before .before .before .before in
+    c .intersection .ensures ∙ ap (λ (x : ℕ). intersection x (members (l .loop .unreached))) (c .before .set-at .ensures)
 
 loop-less : tie.Need-loop-less Inv-loop μ-loop
-loop-less c = let i = c .before .before .before .before in rw (c .without .ensures) (size-without _ _ (of-difference _ _ _ (at-hand i .0) .0))
+loop-less c =
+    let r = c .before in
+    let d = r .before in
+    let m = d .before in
+    let i = m .before .before .before in
+    let l = i .before .before .before .before .before in
+    rw (c .union .ensures, d .difference3 .ensures, met-is m, rest-is capacity _ (i .smallest .ensures) (r .rest2 .ensures)) (walk-less (l .loop .inv) (i .smallest .result) (at-hand i))
 
 loop-again : tie.Need-loop-again Inv-loop μ-loop
 loop-again c =
-    let i = c .before .before .before .before in
-    let l = i .before .before .before .before .before .before .loop in
-    rw (c .without .ensures, c .before .difference3 .ensures, c .before .before .from-word .ensures) (walk-more (l .inv) (i .smallest .result) (at-hand i .0))
+    let r = c .before in
+    let d = r .before in
+    let m = d .before in
+    let i = m .before .before .before in
+    let l = i .before .before .before .before .before in
+    rw (c .union .ensures, d .difference3 .ensures, met-is m, rest-is capacity _ (i .smallest .ensures) (r .rest2 .ensures)) (walk-more (l .loop .inv) (i .smallest .result) (at-hand i))
 
 pub circle-of-spec : {M : Type 1} → statement M
 circle-of-spec =
@@ -90,18 +105,18 @@ circle-of-spec =
     Inv-loop
     μ-loop
     rest-requires
+    difference-requires
     loop-holds
     is-empty-requires
     returns
-    difference-requires
     is-empty-requires-2
     difference-requires-2
     returns-2
     smallest-requires
-    mul-from-word
-    element-copy-out-from-word
-    from-word-requires
+    set-at-requires
+    intersection-requires
     difference-requires-3
-    without-requires
+    rest-requires-2
+    union-requires
     loop-less
     loop-again)

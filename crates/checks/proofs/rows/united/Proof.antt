@@ -1,13 +1,15 @@
 -- `united` meets its contract: before the turn of row u the set is the union of the rows before it.
-use mathlib.Core.Path.{_≡_, refl, ap, _∙_}
-use Prim.Native.Nat.{ℕ, _-_, _≤_}
+use mathlib.Core.Path.{_≡_, refl, ap, ap₂, _∙_}
+use Prim.Native.Nat.{ℕ, _*_, _-_, _≤_}
 use native.Mathlib.Omega.{arith}
 use lib.ListN.{getD}
 use borrow.Author.Needs.{needs}
 use Rattle.sets.specs.Sets.{union}
 use Rattle.sets.specs.Members.{capacity}
+use Rattle.sets.specs.Words.{setWords}
+use Rattle.sets.proofs.Places.{one-word}
 use Rattle.checks.specs.Arrays.{unionOf}
-use Rattle.checks.proofs.TickRows.{union-more}
+use Rattle.checks.proofs.TickRows.{union-more, union-all}
 use Rattle.checks.proofs.rows.united.Statement.{statement}
 use Rattle.checks.proofs.rows.united.Tie as tie
 
@@ -24,6 +26,9 @@ loop-holds c = (search needs, refl)
 mul-all : tie.Need-mul-all Inv-loop μ-loop
 mul-all c = search needs
 
+mul-all-2 : tie.Need-mul-all-2 Inv-loop μ-loop
+mul-all-2 c = search needs
+
 element-copy-out-all : tie.Need-element-copy-out-all Inv-loop μ-loop
 element-copy-out-all c = search needs
 
@@ -35,16 +40,17 @@ loop-less c = search needs
 
 loop-again : tie.Need-loop-again Inv-loop μ-loop
 unfolding union
-loop-again c = (search needs, ap (λ (x : ℕ). union x (getD (c .before .before .before .args .rows .now) (c .before .before .loop .u) 0)) (c .before .before .loop .inv .1) ∙ union-more _ _)
+loop-again c =
+    let l = c .before .before in
+    let rows = l .before .args .rows .now in
+    let e : l .loop .u * setWords ≡ l .loop .u = omega arith in
+    (omega arith, ap₂ union (l .loop .inv .1) (ap (λ (k : ℕ). getD rows k 0) e ∙ one-word rows (l .loop .u)) ∙ union-more rows (l .loop .u))
 
 from-word-requires : tie.Need-from-word-requires Inv-loop μ-loop
 from-word-requires c κs = search needs
 
 returns : tie.Need-returns Inv-loop μ-loop
-returns c =
-    let l = c .before .before in
-    let e : l .loop .u ≡ capacity = omega (arith, c .before .loop-test .left) in
-    c .from-word .ensures ∙ l .loop .inv .1 ∙ ap (λ (x : ℕ). unionOf x (l .before .args .rows .now)) e
+returns c = c .from-word .ensures ∙ c .before .before .loop .inv .1 ∙ union-all _ (omega (arith, c .before .loop-test .left))
 
 pub united-spec : {M : Type 1} → statement M
 united-spec =
@@ -54,6 +60,7 @@ united-spec =
     μ-loop
     loop-holds
     mul-all
+    mul-all-2
     element-copy-out-all
     add-u
     loop-less

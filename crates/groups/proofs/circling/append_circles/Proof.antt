@@ -14,17 +14,17 @@ use Rattle.groups.proofs.circling.append_circles.Statement.{statement}
 use Rattle.groups.proofs.circling.append_circles.Tie as tie
 
 abbrev Inv-loop : tie.InvT-loop
-Inv-loop buffer₀ count rows core enough so-far₀ left₀ buffer so-far left = Writes (coreOf core) enough (graph rows) (members (core .members)) count buffer₀ so-far (members left) buffer
+Inv-loop buffer₀ form count rows core enough so-far₀ left₀ buffer so-far left = Writes (coreOf core) enough (form .group) (form .width) (graph rows) (members (core .members)) count buffer₀ so-far (members left) buffer
 
 abbrev μ-loop : tie.MeasureT-loop
-μ-loop buffer₀ count rows core enough so-far₀ left₀ buffer so-far left = size (members left)
+μ-loop buffer₀ form count rows core enough so-far₀ left₀ buffer so-far left = size (members left)
 
 -- the core is one that a word holds
 small : (s : tie.Start Inv-loop μ-loop) → members (s .args .core .members) < 2 ^ capacity
 small s = omega arith
 
 loop-holds : tie.Need-loop-holds Inv-loop μ-loop
-loop-holds c = let a = c .before .before .args in write-start (coreOf (a .core)) (a .enough) _ _ _ _
+loop-holds c = let a = c .before .before .args in write-start (coreOf (a .core)) (a .enough) _ _ _ _ _ _
 
 is-empty-requires : tie.Need-is-empty-requires Inv-loop μ-loop
 is-empty-requires c κs = search needs

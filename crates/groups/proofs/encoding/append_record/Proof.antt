@@ -1,25 +1,27 @@
 -- append_record meets its contract: the bytes that it puts after the records that stand there are the record's.
-use mathlib.Core.Path.{refl}
-use native.Mathlib.Omega.{arith}
+use mathlib.Core.Path.{_≡_}
+use lib.ListN.{length}
 use borrow.Author.Needs.{needs}
+use Rattle.groups.specs.Appending.{coreOf}
 use Rattle.groups.proofs.Appended.{appends-one}
 use Rattle.groups.proofs.encoding.append_record.Statement.{statement}
 use Rattle.groups.proofs.encoding.append_record.Tie as tie
 
-record-bytes-requires : tie.Need-record-bytes-requires
-record-bytes-requires c κs = search needs
+-- a mark has two letters
+marked : (s : tie.Start) → length (s .args .mark) ≡ 2
+marked s = search needs
 
-mul-put : tie.Need-mul-put
-mul-put c = search needs
+add-put-core : tie.Need-add-put-core
+add-put-core c = search needs
 
-add-put : tie.Need-add-put
-add-put c = search needs
+mul-put-core : tie.Need-mul-put-core
+mul-put-core c = search needs
 
-slice-aggregate-put : tie.Need-slice-aggregate-put
-slice-aggregate-put c = search needs
+add-put-core-2 : tie.Need-add-put-core-2
+add-put-core-2 c = search needs
 
-put-requires : tie.Need-put-requires
-put-requires c κs = search needs
+put-core-requires : tie.Need-put-core-requires
+put-core-requires c κs = search needs
 
 add-result : tie.Need-add-result
 add-result c = search needs
@@ -30,17 +32,17 @@ same-length c = search needs
 returns : tie.Need-returns
 returns c =
     let p = c .before .before in
-    appends-one refl _ (omega arith) (rw (p .before .before .before .record-bytes .ensures) at (p .put .ensures))
+    let s = p .before .before .before in
+    appends-one (marked s) (coreOf (s .args .shown)) (s .pre .1) (p .put-core .ensures)
 
 pub append-record-spec : {M : Type 1} → statement M
 append-record-spec =
     tie.close
     (tie.spec
-    record-bytes-requires
-    mul-put
-    add-put
-    slice-aggregate-put
-    put-requires
+    add-put-core
+    mul-put-core
+    add-put-core-2
+    put-core-requires
     add-result
     same-length
     returns)

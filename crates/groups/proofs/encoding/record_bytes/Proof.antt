@@ -1,57 +1,113 @@
--- record_bytes meets its contract: the members are divided by 256 seven times, and each remainder is a byte of theirs.
-use mathlib.Core.Path.{ap}
-use mathlib.Core.List.{_∷_, []}
-use Prim.Native.Nat.{ℕ}
+-- record_bytes meets its contract: after the mark and three bytes come those of the set's word, and those of 0.
+use mathlib.Core.Path.{_≡_, ap, _∙_}
+use Prim.Native.Nat.{_+_, _*_, _^_, _<_}
+use native.Mathlib.Omega.{arith}
 use borrow.Author.Needs.{needs}
 use Rattle.sets.specs.Bytes.{littleEndian}
-use Rattle.spans.specs.Encoding.{encodeCore}
+use Rattle.sets.specs.Members.{members}
+use Rattle.groups.specs.Appending.{coreOf}
+use Rattle.groups.proofs.Appended.{wide-record}
 use Rattle.groups.proofs.encoding.record_bytes.Statement.{statement}
 use Rattle.groups.proofs.encoding.record_bytes.Tie as tie
+
+-- the members are those that a word holds
+small : (s : tie.Start) → members (s .args .shown .members) < 2 ^ 64
+small s = omega arith
 
 to-word-requires : tie.Need-to-word-requires
 to-word-requires c κs = search needs
 
-cast-t14 : tie.Need-cast-t14
-cast-t14 c = search needs
+word-bytes-requires : tie.Need-word-bytes-requires
+word-bytes-requires c κs = search needs
 
-cast-t16 : tie.Need-cast-t16
-cast-t16 c = search needs
+word-bytes-requires-2 : tie.Need-word-bytes-requires-2
+word-bytes-requires-2 c κs = search needs
 
-cast-t18 : tie.Need-cast-t18
-cast-t18 c = search needs
+array-read-t11 : tie.Need-array-read-t11
+array-read-t11 c = search needs
 
-cast-t20 : tie.Need-cast-t20
-cast-t20 c = search needs
+array-read-t14 : tie.Need-array-read-t14
+array-read-t14 c = search needs
 
-cast-t22 : tie.Need-cast-t22
-cast-t22 c = search needs
+array-read-t17 : tie.Need-array-read-t17
+array-read-t17 c = search needs
 
-cast-t24 : tie.Need-cast-t24
-cast-t24 c = search needs
+array-read-t20 : tie.Need-array-read-t20
+array-read-t20 c = search needs
 
-cast-t26 : tie.Need-cast-t26
-cast-t26 c = search needs
+array-read-t23 : tie.Need-array-read-t23
+array-read-t23 c = search needs
 
-cast-t28 : tie.Need-cast-t28
-cast-t28 c = search needs
+array-read-t26 : tie.Need-array-read-t26
+array-read-t26 c = search needs
+
+array-read-t29 : tie.Need-array-read-t29
+array-read-t29 c = search needs
+
+array-read-t32 : tie.Need-array-read-t32
+array-read-t32 c = search needs
+
+array-read-t35 : tie.Need-array-read-t35
+array-read-t35 c = search needs
+
+array-read-t38 : tie.Need-array-read-t38
+array-read-t38 c = search needs
+
+array-read-t41 : tie.Need-array-read-t41
+array-read-t41 c = search needs
+
+array-read-t44 : tie.Need-array-read-t44
+array-read-t44 c = search needs
+
+array-read-t47 : tie.Need-array-read-t47
+array-read-t47 c = search needs
+
+array-read-t50 : tie.Need-array-read-t50
+array-read-t50 c = search needs
+
+array-read-t53 : tie.Need-array-read-t53
+array-read-t53 c = search needs
+
+array-read-t56 : tie.Need-array-read-t56
+array-read-t56 c = search needs
+
+array-read-t59 : tie.Need-array-read-t59
+array-read-t59 c = search needs
+
+array-read-t62 : tie.Need-array-read-t62
+array-read-t62 c = search needs
 
 returns : tie.Need-returns
-unfolding encodeCore littleEndian
 returns c =
-    let a = c .before .before .args in
-    ap (λ (m : ℕ). encodeCore (a .a ∷ a .b ∷ []) (record { order = a .shown .order; first = a .shown .first; last = a .shown .last; members = m })) (c .to-word .ensures)
+    let w = c .before in
+    let s = w .before .before .before in
+    let m = members (s .args .shown .members) in
+    let one : m + 0 * 2 ^ 64 ≡ m = omega arith in
+    wide-record (s .args .t1) (search needs) (coreOf (s .args .shown)) m 0 (small s) one (w .word-bytes .result) (c .word-bytes2 .result) (w .word-bytes .ensures ∙ ap (littleEndian 8) (w .before .to-word .ensures)) (c .word-bytes2 .ensures)
 
 pub record-bytes-spec : {M : Type 1} → statement M
 record-bytes-spec =
     tie.close
     (tie.spec
     to-word-requires
-    cast-t14
-    cast-t16
-    cast-t18
-    cast-t20
-    cast-t22
-    cast-t24
-    cast-t26
-    cast-t28
+    word-bytes-requires
+    word-bytes-requires-2
+    array-read-t11
+    array-read-t14
+    array-read-t17
+    array-read-t20
+    array-read-t23
+    array-read-t26
+    array-read-t29
+    array-read-t32
+    array-read-t35
+    array-read-t38
+    array-read-t41
+    array-read-t44
+    array-read-t47
+    array-read-t50
+    array-read-t53
+    array-read-t56
+    array-read-t59
+    array-read-t62
     returns)

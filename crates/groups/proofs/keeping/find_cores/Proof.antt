@@ -9,14 +9,14 @@ use Rattle.groups.proofs.keeping.find_cores.Statement.{statement}
 use Rattle.groups.proofs.keeping.find_cores.Tie as tie
 
 abbrev Inv-loop : tie.InvT-loop
-Inv-loop words day least memory₀ orders₀ cores₀ circles₀ large₀ tally₀ first₀ first-end memory orders cores circles large tally first =
-    CoresSoFar (day .badges) (day .ticks) words (members (day .review)) least first (tally .cores) (tally .records) memory₀ memory orders cores circles large
+Inv-loop words day least packs₀ memory₀ orders₀ cores₀ circles₀ large₀ tally₀ first₀ first-end packs memory orders cores circles large tally first =
+    CoresSoFar (day .badges) (day .ticks) words (members (day .review)) least first (tally .cores) (tally .records) packs₀ packs memory₀ memory orders cores circles large
 
 abbrev μ-loop : tie.MeasureT-loop
-μ-loop words day least memory₀ orders₀ cores₀ circles₀ large₀ tally₀ first₀ first-end memory orders cores circles large tally first = day .ticks - first
+μ-loop words day least packs₀ memory₀ orders₀ cores₀ circles₀ large₀ tally₀ first₀ first-end packs memory orders cores circles large tally first = day .ticks - first
 
 loop-holds : tie.Need-loop-holds Inv-loop μ-loop
-loop-holds c = let p = c .before .before .pre in so-far-none _ _ _ _ _ _ (p .0) (p .1) (p .2) (p .3)
+loop-holds c = let p = c .before .before .before .pre in so-far-none _ _ _ _ _ _ _ (p .0) (p .1) (p .2) (p .3) (p .4)
 
 slice-aggregate-find-line : tie.Need-slice-aggregate-find-line Inv-loop μ-loop
 slice-aggregate-find-line c = search needs
@@ -54,13 +54,13 @@ turn f = f .before .before .before .before .before
 
 keep-line-requires : tie.Need-keep-line-requires Inv-loop μ-loop
 keep-line-requires c κs =
-    let f = c .before .before .before .before .before .before .before .before .before in
+    let f = c .before .before .before .before .before .before .before .before .before .before in
     let i = turn f in
     so-far-room (i .before .loop .inv) (i .loop-test .taken) (f .find-line .ensures)
 
 add-first : tie.Need-add-first Inv-loop μ-loop
 add-first c =
-    let i = turn (c .before .before .before .before .before .before .before .before .before .before .before .before) in
+    let i = turn (c .before .before .before .before .before .before .before .before .before .before .before .before .before .before .before) in
     omega (arith, i .loop-test .taken, limits-of (i .before .loop .inv .lent .limits) .short)
 
 loop-less : tie.Need-loop-less Inv-loop μ-loop
@@ -68,13 +68,16 @@ loop-less c = search needs
 
 loop-again : tie.Need-loop-again Inv-loop μ-loop
 loop-again c =
-    let a = c .before .before in
-    let f = a .before .before .before .before .before .before .before .before .before .before in
+    let a = c .before .before .before .before in
+    let f = a .before .before .before .before .before .before .before .before .before .before .before in
     let i = turn f in
     so-far-next (i .before .loop .inv) (i .loop-test .taken) (f .find-line .ensures) (a .keep-line .ensures)
 
 same-length : tie.Need-same-length Inv-loop μ-loop
-same-length c = c .before .loop .inv .cores .size
+same-length c = c .before .loop .inv .cores .packs-size
+
+same-length-2 : tie.Need-same-length-2 Inv-loop μ-loop
+same-length-2 c = c .before .loop .inv .cores .size
 
 returns : tie.Need-returns Inv-loop μ-loop
 returns c = so-far-end (c .before .loop .inv) (c .loop-test .left)
@@ -100,4 +103,5 @@ find-cores-spec =
     loop-less
     loop-again
     same-length
+    same-length-2
     returns)

@@ -1,5 +1,4 @@
--- `keep_core` meets its contract: with no members, an order that is not above the next, or thresholds that are not met, nothing is kept; else the core
--- is, in two words.
+-- `keep_core` meets its contract: with no members, or thresholds that are not met, nothing is kept; else the core is, by its pack and its members.
 use mathlib.Core.Path.{_≡_, sym, ap₂, _∙_}
 use mathlib.Core.Bool.{true}
 use mathlib.Core.List.{List, [], _∷_}
@@ -29,14 +28,12 @@ use Rattle.groups.proofs.keeping.keep_core.Statement.{statement}
 use Rattle.groups.proofs.keeping.keep_core.Tie as tie
 
 -- nothing is kept where a test fails
-nothing : (least : Thresholds) (core : SpanCore) (circles large next count records : ℕ) (memory : List ℕ) → (0 < core .members → next < core .order → meets least core ≡ true → ⊥)
-    → KeepsCores (λ c. circles) (λ c. large) (kept least (keepIf (ltb 0 (core .members) and ltb next (core .order)) (core ∷ []))) count count records records memory memory
-nothing least core circles large next count records memory f =
+nothing : (least : Thresholds) (core : SpanCore) (circles large count records : ℕ) (packs memory : List ℕ) → (0 < core .members → meets least core ≡ true → ⊥)
+    → KeepsCores (λ c. circles) (λ c. large) (kept least (keepIf (ltb 0 (core .members)) (core ∷ []))) count count records records packs packs memory memory
+nothing least core circles large count records packs memory f =
     rw (
-      kept-one least (ltb 0 (core .members) and ltb next (core .order)) core,
-      keep-nil (ltb 0 (core .members) and ltb next (core .order) and meets least core) (core ∷ []) (λ e.
-          let p = and-left _ _ e in
-          f (ltb-true _ _ (and-left _ _ p)) (ltb-true _ _ (and-right _ _ p)) (and-right _ _ e)),
+      kept-one least (ltb 0 (core .members)) core,
+      keep-nil (ltb 0 (core .members) and meets least core) (core ∷ []) (λ e. f (ltb-true _ _ (and-left _ _ e)) (and-right _ _ e)),
     )
     keeps-none
 
@@ -45,13 +42,8 @@ is-empty-requires c κs = search needs
 
 returns : tie.Need-returns
 returns c =
-    let a = c .before .before .before .before .before .args in
-    nothing (a .least) (coreOf (a .core .shown)) _ _ (a .next) _ _ _ (λ p q m. omega (arith, eqb-true (members (a .core .shown .members)) 0 (sym (c .before .is-empty .ensures) ∙ c .if1 .taken)))
-
-returns-2 : tie.Need-returns-2
-returns-2 c =
-    let a = c .before .before .before .before .before .before .before .args in
-    nothing (a .least) (coreOf (a .core .shown)) _ _ (a .next) _ _ _ (λ p q m. omega (arith, c .if2 .taken))
+    let a = c .before .before .before .before .before .before .args in
+    nothing (a .least) (coreOf (a .core .shown)) _ _ _ _ _ _ (λ p m. omega (arith, eqb-true (members (a .core .shown .members)) 0 (sym (c .before .is-empty .ensures) ∙ c .if1 .taken)))
 
 sub-widen : tie.Need-sub-widen
 sub-widen c = search needs
@@ -70,77 +62,65 @@ met-by-requires c κs = search needs
 
 -- what is tested is whether the core meets the thresholds
 tested : (c : tie.After-met-by) →
-    let a = c .before .before .before .before .before .before .before .before .before .before .before .args in c .met-by .result ≡ meets (a .least) (coreOf (a .core .shown))
+    let a = c .before .before .before .before .before .before .before .before .before .before .args in c .met-by .result ≡ meets (a .least) (coreOf (a .core .shown))
 unfolding meets
 tested c =
     let w = c .before .before in
-    let s = w .before .before .before .before .before .before .before .before .before in
-    let long : w .widen .result + 1 ≡ spanTicks (s .args .core .shown .first) (s .args .core .shown .last) = omega (arith, w .widen .ensures .0, s .pre .3) in
+    let s = w .before .before .before .before .before .before .before .before in
+    let long : w .widen .result + 1 ≡ spanTicks (s .args .core .shown .first) (s .args .core .shown .last) = omega (arith, w .widen .ensures .0, s .pre .4) in
     c .met-by .ensures ∙ ap₂ (λ (t k : ℕ). areEnough (s .args .least) t k (size (members (s .args .core .shown .members)))) long (c .before .widen2 .ensures .0)
 
-returns-3 : tie.Need-returns-3
-returns-3 c =
-    let a = c .before .before .before .before .before .before .before .before .before .before .before .before .args in
-    nothing (a .least) (coreOf (a .core .shown)) _ _ (a .next) _ _ _ (λ p q m. clash m (sym (tested (c .before)) ∙ not-true _ (c .if3 .taken)))
-
-mul-at : tie.Need-mul-at
-mul-at c = search needs
+returns-2 : tie.Need-returns-2
+returns-2 c =
+    let a = c .before .before .before .before .before .before .before .before .before .before .before .args in
+    nothing (a .least) (coreOf (a .core .shown)) _ _ _ _ _ _ (λ p m. clash m (sym (tested (c .before)) ∙ not-true _ (c .if2 .taken)))
 
 pack-requires : tie.Need-pack-requires
 pack-requires c κs = search needs
 
-mul-memory : tie.Need-mul-memory
-mul-memory c = search needs
+mul-packs : tie.Need-mul-packs
+mul-packs c = search needs
 
-slice-write-memory : tie.Need-slice-write-memory
-slice-write-memory c = search needs
+slice-write-packs : tie.Need-slice-write-packs
+slice-write-packs c = search needs
 
-to-word-requires : tie.Need-to-word-requires
-to-word-requires c κs = search needs
-
-add-memory : tie.Need-add-memory
-add-memory c = search needs
-
-mul-memory-2 : tie.Need-mul-memory-2
-mul-memory-2 c = search needs
-
-slice-write-memory-2 : tie.Need-slice-write-memory-2
-slice-write-memory-2 c =
-    let s = c .before .before .before .before .before .before .before .before .before .before .before .before .before .before .before in
-    let l : 2 * s .args .tally .cores + 1 < length (s .args .memory .now) = omega (arith, s .pre .0) in
-    lt-length-set (s .args .memory .now) (2 * s .args .tally .cores) (c .before .pack .result) l
-
-add-t15 : tie.Need-add-t15
-add-t15 c = search needs
-
-widen-requires-3 : tie.Need-widen-requires-3
-widen-requires-3 c κs = search needs
+put-set-requires : tie.Need-put-set-requires
+put-set-requires c κs = search needs
 
 add-t14 : tie.Need-add-t14
 add-t14 c = search needs
 
+widen-requires-3 : tie.Need-widen-requires-3
+widen-requires-3 c κs = search needs
+
+add-t12 : tie.Need-add-t12
+add-t12 c = search needs
+
 same-length : tie.Need-same-length
 same-length c = search needs
 
-returns-4 : tie.Need-returns-4
-returns-4 c =
+same-length-2 : tie.Need-same-length-2
+same-length-2 c = search needs
+
+returns-3 : tie.Need-returns-3
+returns-3 c =
     let w = c .before in
-    let t = w .before .before in
-    let k = t .before in
-    let m = k .before .before in
+    let t = w .before .before .before .before in
+    let k = t .before .before in
+    let m = k .before in
     let e = m .before .before .before .before .before in
-    let s = e .before .before .before .before .before .before .before in
+    let s = e .before .before .before .before .before .before in
     let a = s .args in
     let set = members (a .core .shown .members) in
-    let f = eqb-false set 0 (sym (e .before .before .before .is-empty .ensures) ∙ e .before .before .if1 .left) in
-    let b = ltb 0 set and ltb (a .next) (a .core .shown .order) in
+    let f = eqb-false set 0 (sym (e .before .is-empty .ensures) ∙ e .if1 .left) in
+    let b = ltb 0 set in
     rw (
       kept-one (a .least) b (coreOf (a .core .shown)),
-      keep-all (b and meets (a .least) (coreOf (a .core .shown))) (coreOf (a .core .shown) ∷ []) (and-in _ _ (and-in _ _ (lt-ltb 0 set (omega arith)) (lt-ltb (a .next) (a .core .shown .order) (e .if2 .left))) (sym (tested (m .before)) ∙ not-false _ (m .if3 .left))),
+      keep-all (b and meets (a .least) (coreOf (a .core .shown))) (coreOf (a .core .shown) ∷ []) (and-in _ _ (lt-ltb 0 set (omega arith)) (sym (tested (m .before)) ∙ not-false _ (m .if2 .left))),
       w .widen3 .ensures .0,
-      t .to-word .ensures,
+      t .put-set .ensures,
     )
-    (keeps-one (coreOf (a .core .shown)) (a .core .circles) (a .large) (s .pre .0) (omega arith) (k .pack .ensures))
+    (keeps-one (coreOf (a .core .shown)) (a .core .circles) (a .large) (s .pre .0) (s .pre .1) (omega arith) (k .pack .ensures))
 
 pub keep-core-spec : {M : Type 1} → statement M
 keep-core-spec =
@@ -148,23 +128,19 @@ keep-core-spec =
     (tie.spec
     is-empty-requires
     returns
-    returns-2
     sub-widen
     widen-requires
     add-met-by
     widen-requires-2
     met-by-requires
-    returns-3
-    mul-at
+    returns-2
     pack-requires
-    mul-memory
-    slice-write-memory
-    to-word-requires
-    add-memory
-    mul-memory-2
-    slice-write-memory-2
-    add-t15
-    widen-requires-3
+    mul-packs
+    slice-write-packs
+    put-set-requires
     add-t14
+    widen-requires-3
+    add-t12
     same-length
-    returns-4)
+    same-length-2
+    returns-3)

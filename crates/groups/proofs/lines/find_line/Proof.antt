@@ -53,29 +53,31 @@ first-rows-requires c κs = let p = c .before .before .before .before .before .b
 loop-holds : tie.Need-loop-holds Inv-loop μ-loop
 loop-holds c = let p = c .before .before .before .before .before .before .before .pre in finding-start (p .0) (p .1) (p .2) (p .3) (c .first-rows .ensures) (p .4) (p .5) (p .6)
 
+cast-upper : tie.Need-cast-upper Inv-loop μ-loop
+cast-upper c = search needs
+
 slice-read-lower : tie.Need-slice-read-lower Inv-loop μ-loop
 slice-read-lower c = at-orders (c .before)
 
 slice-write-orders : tie.Need-slice-write-orders Inv-loop μ-loop
 slice-write-orders c = at-orders (c .before .before)
 
-mul-cores : tie.Need-mul-cores Inv-loop μ-loop
-mul-cores c = omega (arith, small (c .before .before))
-
-slice-write-cores : tie.Need-slice-write-cores Inv-loop μ-loop
-slice-write-cores c = let i = c .before .before in at-table i (i .before .loop .inv .found .members-size)
+put-set-requires : tie.Need-put-set-requires Inv-loop μ-loop
+put-set-requires c κs = search needs
 
 add-last : tie.Need-add-last Inv-loop μ-loop
-add-last c = search needs
+add-last c = omega (arith, small (c .before .before .before .before .before .before))
 
 loop-less : tie.Need-loop-less Inv-loop μ-loop
 loop-less c = search needs
 
 loop-again : tie.Need-loop-again Inv-loop μ-loop
 loop-again c =
-    let i = c .before .before in
+    let w = c .before .before in
+    let t = w .before .before in
+    let i = t .before .before in
     let p = i .before .before .before .before .before .before .before .before .before .pre in
-    finding-next (p .0) (p .1) (p .2) (p .3) (i .before .loop .inv) (i .loop-test .taken) at-none at-none (bounds-meet (asked i) (c .if1 .taken))
+    rw (w .put-set .ensures) (finding-next (p .0) (p .1) (p .2) (p .3) (i .before .loop .inv) (i .loop-test .taken) at-none at-none (bounds-meet (asked i) (t .if1 .taken)))
 
 slice-aggregate-narrow-to : tie.Need-slice-aggregate-narrow-to Inv-loop μ-loop
 slice-aggregate-narrow-to c = sym (going-size (going-start (asked (c .before .before .before) .rows-to)))
@@ -99,34 +101,28 @@ turn c = c .before .before .before .before .before .before .before .before .befo
 slice-write-orders-2 : tie.Need-slice-write-orders-2 Inv-loop μ-loop
 slice-write-orders-2 c = at-orders (turn c)
 
-to-word-requires : tie.Need-to-word-requires Inv-loop μ-loop
-to-word-requires c κs = search needs
-
-mul-cores-2 : tie.Need-mul-cores-2 Inv-loop μ-loop
-mul-cores-2 c = omega (arith, small (turn (c .before)))
-
-slice-write-cores-2 : tie.Need-slice-write-cores-2 Inv-loop μ-loop
-slice-write-cores-2 c = let i = turn (c .before) in at-table i (i .before .loop .inv .found .members-size)
+put-set-requires-2 : tie.Need-put-set-requires-2 Inv-loop μ-loop
+put-set-requires-2 c κs = search needs
 
 count-core-requires : tie.Need-count-core-requires Inv-loop μ-loop
 count-core-requires c κs =
-    let i = turn (c .before .before .before .before) in
+    let i = turn (c .before .before .before .before .before .before .before) in
     let f = i .before .loop .inv .found in
     (at-table i (f .circles-size), at-table i (f .large-size))
 
 add-last-2 : tie.Need-add-last-2 Inv-loop μ-loop
-add-last-2 c = omega (arith, small (turn (c .before .before .before .before .before .before .before .before .before)))
+add-last-2 c = omega (arith, small (turn (c .before .before .before .before .before .before .before .before .before .before .before .before)))
 
 loop-less-2 : tie.Need-loop-less-2 Inv-loop μ-loop
-loop-less-2 c = search needs
+loop-less-2 c = omega (arith, turn (c .before .before .before .before .before .before .before .before .before .before .before .before) .loop-test .taken)
 
 loop-again-2 : tie.Need-loop-again-2 Inv-loop μ-loop
 loop-again-2 c =
     let k = c .before .before .before .before in
-    let w = k .before .before .before .before in
-    let h = w .before .before .before in
+    let w = k .before .before .before .before .before .before in
+    let h = w .before .before .before .before in
     let u = h .before .before in
-    let i = turn (w .before) in
+    let i = turn (w .before .before) in
     let p = i .before .before .before .before .before .before .before .before .before .pre in
     let s = asked i .span in
     let e = u .before .before .before .narrow-to .ensures in
@@ -136,7 +132,7 @@ loop-again-2 c =
     let q = symmetric-highest (rows-symmetric s e _ (united-sub s e b (p .1 .named) t)) (h .highest-core .ensures) in
     let counted = k .count-core .ensures in
     let found = core-found (asked i) e b t (record { order = q .order; members = q .members }) (rw back at (counted .counted)) in
-    rw back (finding-next (p .0) (p .1) (p .2) (p .3) (i .before .loop .inv) (i .loop-test .taken) (counted .in-all) (counted .with-enough) (rw (w .to-word .ensures) found))
+    rw (back, w .put-set2 .ensures) (finding-next (p .0) (p .1) (p .2) (p .3) (i .before .loop .inv) (i .loop-test .taken) (counted .in-all) (counted .with-enough) found)
 
 -- where the function started
 abbrev start : tie.After-loop Inv-loop μ-loop → tie.Start Inv-loop μ-loop
@@ -164,11 +160,11 @@ find-line-spec =
     Inv-loop
     μ-loop
     first-rows-requires
+    cast-upper
     loop-holds
     slice-read-lower
     slice-write-orders
-    mul-cores
-    slice-write-cores
+    put-set-requires
     add-last
     loop-less
     loop-again
@@ -178,9 +174,7 @@ find-line-spec =
     intersection-requires
     highest-core-requires
     slice-write-orders-2
-    to-word-requires
-    mul-cores-2
-    slice-write-cores-2
+    put-set-requires-2
     count-core-requires
     add-last-2
     loop-less-2

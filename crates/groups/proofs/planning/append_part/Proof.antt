@@ -15,17 +15,20 @@ small c =
     let l = limits-of (d .lent .limits) in
     (omega (arith, d .rising, d .inside, l .short), omega (arith, d .inside, l .short))
 
-cast-t9 : tie.Need-cast-t9
-cast-t9 c = omega (arith, small (c .before .before .before) .0)
+cast-t11 : tie.Need-cast-t11
+cast-t11 c = omega (arith, small (c .before .before .before) .0)
 
-cast-t10 : tie.Need-cast-t10
-cast-t10 c = omega (arith, small (c .before .before .before .before) .1)
+cast-t12 : tie.Need-cast-t12
+cast-t12 c = omega (arith, small (c .before .before .before .before) .1)
 
 part-members-requires : tie.Need-part-members-requires
 part-members-requires c κs = let p = c .before .before .before .before .pre in (p .0, p .1, p .2)
 
+add-append-record : tie.Need-add-append-record
+add-append-record c = omega (arith, c .before .before .before .before .before .before .before .before .pre .3)
+
 append-record-requires : tie.Need-append-record-requires
-append-record-requires c κs = c .before .before .before .before .before .before .pre .3
+append-record-requires c κs = let p = c .before .before .before .before .before .before .before .before .pre in (p .3, p .4)
 
 same-length : tie.Need-same-length
 same-length c = search needs
@@ -33,7 +36,7 @@ same-length c = search needs
 returns : tie.Need-returns
 returns c =
     let a = c .before .before in
-    let m = a .before .before in
+    let m = a .before .before .before .before in
     let s = m .before .before .before .before .before in
     rw (part-found (s .pre .0) (s .pre .1) (members (s .args .query)) (s .pre .2) (m .part-members .ensures)) at (a .append-record .ensures)
 
@@ -41,9 +44,10 @@ pub append-part-spec : {M : Type 1} → statement M
 append-part-spec =
     tie.close
     (tie.spec
-    cast-t9
-    cast-t10
+    cast-t11
+    cast-t12
     part-members-requires
+    add-append-record
     append-record-requires
     same-length
     returns)

@@ -2,7 +2,7 @@
 use mathlib.Core.Path.{_≡_, sym, ap, _∙_}
 use mathlib.Core.Bool.{true}
 use mathlib.Core.List.{List, _++_}
-use Prim.Native.Nat.{_+_, _*_, _≤_, min}
+use Prim.Native.Nat.{_*_, _≤_, min}
 use native.Mathlib.Omega.{arith}
 use lib.ListN.{drop}
 use borrow.Author.Needs.{needs}
@@ -13,8 +13,10 @@ use Rattle.records.specs.Limits.{maxTicks}
 use Rattle.records.proofs.WithinLimits.{limits-of}
 use Rattle.log.proofs.Delivering.{leaves-refused}
 use Rattle.spans.specs.SpanCores.{SpanCore}
-use Rattle.spans.specs.Encoding.{planBytes}
+use Rattle.spans.specs.Encoding.{formOf, coreBytes, planBytes}
 use Rattle.spans.proofs.Judging.{judged-query, judged-reviewed, judged-parts}
+use Rattle.groups.specs.Scoring.{planSize}
+use Rattle.groups.proofs.Appended.{short-records}
 use Rattle.groups.proofs.PlanCall.{PlanEnds, planned-short, planned-fits, table-ends}
 use Rattle.groups.proofs.planning.plan_day.Statement.{statement}
 use Rattle.groups.proofs.planning.plan_day.Tie as tie
@@ -70,20 +72,37 @@ Passed c =
 passed : (c : tie.Else4) → Passed c
 passed c = (named (c .before .before .before .before), reviewed (c .before .before), omega (arith, c .before .if3 .left), c .if4 .left)
 
-mul-size : tie.Need-mul-size
-mul-size c = omega (arith, few c)
+set-bytes-requires : tie.Need-set-bytes-requires
+set-bytes-requires c κs = search needs
+
+-- so the parts have few bytes
+short : (b : tie.After-set-bytes) → (b .set-bytes .result ≤ 16) × (coreBytes (b .set-bytes .result) * start (b .before) .args .parts ≤ 2016)
+short b = short-records (start (b .before) .args .badges) (b .set-bytes .ensures) (few (b .before))
+
+add-record : tie.Need-add-record
+add-record c = omega (arith, short c .0)
 
 add-size : tie.Need-add-size
-add-size c = omega (arith, few c)
+add-size c = omega (arith, short c .0)
+
+mul-size : tie.Need-mul-size
+mul-size c = omega (arith, short c .1)
+
+add-size-2 : tie.Need-add-size-2
+add-size-2 c = omega (arith, short c .0, short c .1)
 
 returns-5 : tie.Need-returns-5
 returns-5 c =
-    let p = passed (c .before) in
-    planned-short _ _ _ _ _ _ (p .0) (p .1) (p .2) (p .3) _ (c .if5 .taken)
+    let b = c .before in
+    let p = passed (b .before) in
+    planned-short _ _ _ _ _ _ (p .0) (p .1) (p .2) (p .3) _ (b .set-bytes .ensures) (c .if5 .taken)
 
 -- the ends found
+abbrev sized : tie.After-best-ends → tie.After-set-bytes
+sized c = c .before .before .before .before .before .before
+
 abbrev made : tie.After-best-ends → tie.Else4
-made c = c .before .before .before .before .before .before
+made c = sized c .before
 
 found : (c : tie.After-best-ends) → let a = start (made c) .args in
     PlanEnds (a .badges) (a .ticks) (a .words .now) (members (a .review)) (members (a .query)) (a .parts) (c .best-ends .result)
@@ -95,7 +114,7 @@ slice-aggregate-fill-scores : tie.Need-slice-aggregate-fill-scores
 slice-aggregate-fill-scores c = search needs
 
 fill-scores-requires : tie.Need-fill-scores-requires
-fill-scores-requires c κs = let p = start (c .before .before) .pre in (p .0, p .1, search needs)
+fill-scores-requires c κs = let p = start (c .before .before .before) .pre in (p .0, p .1, search needs)
 
 best-ends-requires : tie.Need-best-ends-requires
 best-ends-requires c κs = search needs
@@ -110,7 +129,7 @@ encode-plan-requires c κs =
       scored = b .before .before .before .fill-scores .ensures;
       cutting = found b .cutting;
       ends-size = search needs;
-      room = omega (arith, b .before .before .before .before .before .if5 .left);
+      room = rw (sized b .set-bytes .ensures) at (b .before .before .before .before .before .if5 .left);
     }
 
 same-length : tie.Need-same-length
@@ -122,8 +141,8 @@ returns-6 c =
     let b = n .before .before .before .before in
     let a = start (made b) .args in
     let p = passed (made b) in
-    let bytes = n .encode-plan .ensures .bytes ∙ ap (λ (ps : List SpanCore). planBytes (a .badges) (a .ticks) (a .parts) (members (a .query)) ps ++ drop (19 + 13 * a .parts) (a .buffer .now)) (found b .parts) in
-    planned-fits (a .badges) (a .ticks) (a .words .now) (members (a .review)) (members (a .query)) (a .parts) (p .0) (p .1) (p .2) (p .3) (a .buffer .now) (b .before .before .before .before .before .if5 .left) bytes
+    let bytes = n .encode-plan .ensures .bytes ∙ ap (λ (ps : List SpanCore). planBytes (a .badges) (a .ticks) (a .parts) (members (a .query)) ps ++ drop (planSize (formOf (a .badges) .setBytes) (a .parts)) (a .buffer .now)) (found b .parts) in
+    planned-fits (a .badges) (a .ticks) (a .words .now) (members (a .review)) (members (a .query)) (a .parts) (p .0) (p .1) (p .2) (p .3) (a .buffer .now) (sized b .set-bytes .ensures) (b .before .before .before .before .before .if5 .left) bytes
 
 pub plan-day-spec : {M : Type 1} → statement M
 plan-day-spec =
@@ -136,8 +155,11 @@ plan-day-spec =
     returns-2
     returns-3
     returns-4
-    mul-size
+    set-bytes-requires
+    add-record
     add-size
+    mul-size
+    add-size-2
     returns-5
     slice-aggregate-fill-scores
     fill-scores-requires

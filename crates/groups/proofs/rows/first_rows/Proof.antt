@@ -3,13 +3,17 @@ use Prim.Native.Nat.{_+_, _*_, _≤_}
 use native.Mathlib.Omega.{arith}
 use lib.ListN.{length}
 use borrow.Author.Needs.{needs}
+use Rattle.sets.specs.Words.{setWords}
 use Rattle.groups.proofs.Narrowing.{tick-inside, first-tick}
 use Rattle.groups.proofs.rows.first_rows.Statement.{statement}
 use Rattle.groups.proofs.rows.first_rows.Tie as tie
 
 -- the words of the tick are among the words
-inside : (c : tie.After-shared-slice-known) → let a = c .before .args in a .first * a .day .badges + a .day .badges ≤ length (a .words .now)
-inside c = let p = c .before .pre .0 in tick-inside _ p (p .rising)
+inside : (c : tie.After-struct-known) → let a = c .before .before .args in a .first * (a .day .badges * setWords) + a .day .badges * setWords ≤ length (a .words .now)
+inside c = let p = c .before .before .pre .0 in tick-inside _ p (p .rising)
+
+mul-size : tie.Need-mul-size
+mul-size c = search needs
 
 mul-at : tie.Need-mul-at
 mul-at c = omega (arith, inside c)
@@ -33,12 +37,13 @@ copy-tick-requires : tie.Need-copy-tick-requires
 copy-tick-requires c κs = search needs
 
 returns : tie.Need-returns
-returns c = let p = c .before .before .before .before .pre in first-tick (p .0) (p .1) (c .copy-tick .ensures)
+returns c = let p = c .before .before .before .before .before .pre in first-tick (p .0) (p .1) (c .copy-tick .ensures)
 
 pub first-rows-spec : {M : Type 1} → statement M
 first-rows-spec =
     tie.close
     (tie.spec
+    mul-size
     mul-at
     add-copy-tick
     mul-copy-tick

@@ -1,13 +1,13 @@
 -- `append_core` meets its contract: a core of one circle is its own record, and the circles of any other are found from the rows of its span.
 use mathlib.Core.Path.{_≡_, ap₂, _∙_}
 use borrow.Author.Needs.{needs}
-use Rattle.spans.specs.Spans.{SpanOfDay, spanRows}
+use Rattle.spans.specs.Spans.{SpanOfDay, spanWords}
 use Rattle.groups.proofs.ReportBytes.{whole-record, whole-room, split-circles}
 use Rattle.groups.proofs.writing.append_core.Statement.{statement}
 use Rattle.groups.proofs.writing.append_core.Tie as tie
 
 append-record-requires : tie.Need-append-record-requires
-append-record-requires c κs = let t = c .before in whole-room (t .before .before .before .before .before .pre .1) (t .if1 .taken)
+append-record-requires c κs = let t = c .before .before in whole-room (t .before .before .before .before .before .pre .1) (t .if1 .taken)
 
 same-length : tie.Need-same-length
 same-length c = search needs
@@ -15,7 +15,7 @@ same-length c = search needs
 returns : tie.Need-returns
 returns c =
     let r = c .before .before in
-    let t = r .before .before in
+    let t = r .before .before .before in
     let s = t .before .before .before .before .before in
     (rw (whole-record (s .pre .1) (t .if1 .taken)) (r .append-record .ensures), s .pre .0)
 
@@ -36,8 +36,8 @@ follow-requires c κs =
     (here w, p .span .rising, p .are)
 
 -- they are the rows of that span
-found : (f : tie.After-follow) → let s = f .before .before .before .before .before .before .before .before .before in f .follow .last .0 ≡ spanRows (s .args .day .badges) (s .args .words .now) (s .args .core .shown .first) (s .args .core .shown .last)
-found f = let w = f .before .before in f .follow .ensures ∙ ap₂ (spanRows _ _) (w .before .widen .ensures .0) (w .widen2 .ensures .0)
+found : (f : tie.After-follow) → let s = f .before .before .before .before .before .before .before .before .before in f .follow .last .0 ≡ spanWords (s .args .day .badges) (s .args .words .now) (s .args .core .shown .first) (s .args .core .shown .last)
+found f = let w = f .before .before in f .follow .ensures ∙ ap₂ (spanWords _ _) (w .before .widen .ensures .0) (w .widen2 .ensures .0)
 
 append-circles-requires : tie.Need-append-circles-requires
 append-circles-requires c κs =

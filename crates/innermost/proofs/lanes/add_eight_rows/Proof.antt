@@ -34,7 +34,7 @@ add-eight-requires c κs = search needs
 
 returns : tie.Need-returns
 returns c =
-    let t8 = c .before .before in
+    let t8 = c .before in
     let t7 = t8 .before in
     let t6 = t7 .before in
     let t5 = t6 .before in

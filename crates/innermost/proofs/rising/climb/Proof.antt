@@ -2,24 +2,25 @@
 -- The loop ends as the order rises.
 use mathlib.Core.Path.{_≡_, refl, sym, _∙_}
 use mathlib.Core.Logic.{inl, inr}
-use Prim.Native.Nat.{_+_, _-_}
+use Prim.Native.Nat.{_+_, _-_, _^_, _≤_, _<_}
 use native.Mathlib.Omega.{arith}
 use borrow.Author.Needs.{needs}
 use borrow.Author.Tests.{not-true, not-false}
-use Rattle.sets.specs.Members.{members}
-use Rattle.planes.specs.Lanes.{planesOf}
+use Rattle.sets.specs.Members.{capacity, members}
+use Rattle.planes.specs.Lanes.{half}
 use Rattle.cores.specs.Rows.{graph}
-use Rattle.innermost.specs.Counting.{Climbing}
+use Rattle.innermost.specs.Degrees.{numberOf}
+use Rattle.innermost.specs.Rising.{Climbing}
 use Rattle.innermost.proofs.Climbing.{climbing-test, climbing-more, climbing-end}
 use Rattle.innermost.proofs.rising.climb.Statement.{statement}
 use Rattle.innermost.proofs.rising.climb.Tie as tie
 
 abbrev Inv-loop : tie.InvT-loop
-Inv-loop rows query above stop order₀ found₀ left₀ planes₀ order found left planes =
-    Climbing (graph rows) (members left₀) (members query) above stop order (members found) (members left) (planesOf planes)
+Inv-loop rows query above stop order₀ found₀ left₀ degrees₀ order found left degrees =
+    Climbing (graph rows) (members left₀) (members query) above stop order (members found) (members left) (numberOf degrees)
 
 abbrev μ-loop : tie.MeasureT-loop
-μ-loop rows query above stop order₀ found₀ left₀ planes₀ order found left planes = stop - order
+μ-loop rows query above stop order₀ found₀ left₀ degrees₀ order found left degrees = stop - order
 
 start-requires : tie.Need-start-requires Inv-loop μ-loop
 start-requires c κs = search needs
@@ -32,6 +33,14 @@ widen-requires c κs = search needs
 
 add-settle : tie.Need-add-settle Inv-loop μ-loop
 add-settle c = search needs
+
+-- the base is a set of badges that a word holds
+wide : (c : tie.Start Inv-loop μ-loop) → members (c .args .base) < 2 ^ capacity
+wide c = omega arith
+
+-- no order is above half of what there is room for
+few : (c : tie.Start Inv-loop μ-loop) → c .args .stop ≤ half
+few c = omega arith
 
 -- the order at hand
 at-order : (c : tie.After-widen Inv-loop μ-loop) → c .widen .result + 1 ≡ c .before .before .loop .order + 1
@@ -46,8 +55,8 @@ contains-requires c κs = search needs
 add-order : tie.Need-add-order Inv-loop μ-loop
 add-order c = omega arith
 
-add-requires : tie.Need-add-requires Inv-loop μ-loop
-add-requires c κs = search needs
+raise-requires : tie.Need-raise-requires Inv-loop μ-loop
+raise-requires c κs = search needs
 
 loop-less : tie.Need-loop-less Inv-loop μ-loop
 loop-less c = search needs
@@ -57,7 +66,8 @@ loop-again c =
     let e = c .before .before in
     let t = e .before .before in
     let i = t .before .before in
-    climbing-more (i .before .loop .inv) _ (at-order (t .before)) (t .settle .ensures) (i .loop-test .taken) (sym (e .before .contains .ensures) ∙ not-false _ (e .if1 .left)) (omega arith) refl (c .add .ensures)
+    let s = i .before .before .before .before .before in
+    climbing-more (i .before .loop .inv) _ (at-order (t .before)) (t .settle .ensures) (i .loop-test .taken) (sym (e .before .contains .ensures) ∙ not-false _ (e .if1 .left)) (wide s) (few s) (c .raise .ensures)
 
 returns : tie.Need-returns Inv-loop μ-loop
 returns c = climbing-end (c .before .loop .inv) (inr (c .loop-test .left))
@@ -81,7 +91,7 @@ climb-spec =
     settle-requires
     contains-requires
     add-order
-    add-requires
+    raise-requires
     loop-less
     loop-again
     returns

@@ -6,34 +6,35 @@ use borrow.Author.Needs.{needs}
 use borrow.Author.Tests.{eqb-true, eqb-false, not-true}
 use Rattle.sets.specs.Sets.{intersection, difference, size}
 use Rattle.sets.specs.Members.{capacity, members}
-use Rattle.planes.specs.Lanes.{lowerPlanes, planesOf}
+use Rattle.sets.proofs.Sets.{sub-lt}
 use Rattle.cores.specs.Rows.{graph}
 use Rattle.innermost.specs.Columns.{transposed}
+use Rattle.innermost.specs.Degrees.{numberOf}
 use Rattle.cores.proofs.Peeled.{Peeling}
-use Rattle.innermost.proofs.CountedLanes.{counting-less}
+use Rattle.innermost.proofs.CountedDegrees.{counting-less}
 use Rattle.innermost.proofs.Settling.{Settling, settling-start, low-sub, settling-less, settling-falls, settling-end, too-few, query-lost}
 use Rattle.innermost.proofs.rising.settle.Statement.{statement}
 use Rattle.innermost.proofs.rising.settle.Tie as tie
 
 abbrev Inv-loop : tie.InvT-loop
-Inv-loop rows query k left₀ planes₀ left planes = Settling (graph rows) (members left₀) k (members left) (planesOf planes)
+Inv-loop rows query k left₀ degrees₀ left degrees = Settling (graph rows) (members left₀) k (members left) (numberOf degrees)
 
 abbrev μ-loop : tie.MeasureT-loop
-μ-loop rows query k left₀ planes₀ left planes = size (members left)
+μ-loop rows query k left₀ degrees₀ left degrees = size (members left)
 
 loop-holds : tie.Need-loop-holds Inv-loop μ-loop
 loop-holds c = settling-start (c .before .before .pre .1)
 
-from-word-requires : tie.Need-from-word-requires Inv-loop μ-loop
-from-word-requires c κs = search needs
+below-requires : tie.Need-below-requires Inv-loop μ-loop
+below-requires c κs = search needs
 
 intersection-requires : tie.Need-intersection-requires Inv-loop μ-loop
 intersection-requires c κs = search needs
 
--- those dropped: the members that the last plane has
+-- those dropped: the members that are counted below the order
 low-is : (i : tie.After-intersection Inv-loop μ-loop) →
-    let l = i .before .before .loop in members (i .intersection .result) ≡ intersection (members (l .left)) (l .planes .p7)
-low-is i = i .intersection .ensures ∙ ap (λ (x : ℕ). intersection (members (i .before .before .loop .left)) x) (i .before .from-word .ensures)
+    members (i .intersection .result) ≡ intersection (members (i .before .before .loop .left)) (members (i .before .below .result))
+low-is i = i .intersection .ensures
 
 -- the set at the start is one that a word holds
 wide : (l : tie.At-loop Inv-loop μ-loop) → members (l .before .before .before .args .given .members) < 2 ^ capacity
@@ -47,7 +48,7 @@ less : (d : tie.After-difference Inv-loop μ-loop) →
 less d =
     let i = d .before .before .before in
     let l = i .before .before in
-    rw (d .difference .ensures) (settling-less (wide l) (lowerPlanes (l .loop .planes)) (l .loop .planes .p7) refl (l .loop .inv) (low-is i))
+    rw (d .difference .ensures) (settling-less (wide l) (l .loop .inv) (i .before .below .ensures) (low-is i))
 
 is-empty-requires : tie.Need-is-empty-requires Inv-loop μ-loop
 is-empty-requires c κs = search needs
@@ -56,7 +57,7 @@ returns : tie.Need-returns Inv-loop μ-loop
 returns c =
     let i = c .before .before in
     let l = i .before .before in
-    settling-end (wide l) (lowerPlanes (l .loop .planes)) (l .loop .planes .p7) refl (l .loop .inv) (low-is i) _ (eqb-true _ _ (sym (c .before .is-empty .ensures) ∙ c .if1 .taken))
+    settling-end (wide l) (l .loop .inv) (i .before .below .ensures) (low-is i) _ (eqb-true _ _ (sym (c .before .is-empty .ensures) ∙ c .if1 .taken))
 
 difference-requires : tie.Need-difference-requires Inv-loop μ-loop
 difference-requires c κs = search needs
@@ -93,17 +94,17 @@ loop-less c =
     let i = e .before .before in
     let l = i .before .before in
     rw (d .difference .ensures)
-    (settling-falls (wide l) (lowerPlanes (l .loop .planes)) (l .loop .planes .p7) refl (l .loop .inv) (low-is i) (eqb-false _ _ (sym (e .before .is-empty .ensures) ∙ e .if1 .left)))
+    (settling-falls (wide l) (l .loop .inv) (i .before .below .ensures) (low-is i) (eqb-false _ _ (sym (e .before .is-empty .ensures) ∙ e .if1 .left)))
 
 loop-again : tie.Need-loop-again Inv-loop μ-loop
 loop-again c =
     let d = c .before .before .before .before .before in
     let i = d .before .before .before in
     let l = i .before .before in
-    let part = low-sub (wide l) (lowerPlanes (l .loop .planes)) (l .loop .planes .p7) refl (l .loop .inv) (low-is i) in
+    let part = low-sub (wide l) (l .loop .inv) (i .before .below .ensures) (low-is i) in
     record {
       peeling = less d;
-      counting = rw (d .difference .ensures) (counting-less (l .loop .inv .counting) (l .before .before .before .pre .0) part refl (c .discount .ensures));
+      counting = rw (d .difference .ensures) (counting-less (sub-lt capacity _ _ (l .loop .inv .peeling .within) (wide l)) (l .loop .inv .counting) (l .before .before .before .pre .0) part (c .discount .ensures));
     }
 
 pub settle-spec : {M : Type 1} → statement M
@@ -113,7 +114,7 @@ settle-spec =
     Inv-loop
     μ-loop
     loop-holds
-    from-word-requires
+    below-requires
     intersection-requires
     is-empty-requires
     returns

@@ -1,36 +1,28 @@
 -- `rising::start` meets its contract: the base is the core of every order up to its least in-degree, which the largest number in its lanes gives.
 use mathlib.Core.Path.{_≡_}
-use Prim.Native.Nat.{_+_, _^_, _<_}
+use Prim.Native.Nat.{_+_}
 use native.Mathlib.Omega.{arith}
 use borrow.Author.Needs.{needs}
 use borrow.Author.Tests.{ltb-true}
-use Rattle.sets.specs.Members.{capacity, members}
+use Rattle.sets.specs.Members.{members}
 use Rattle.sets.proofs.Bools.{and-left}
-use Rattle.planes.specs.Lanes.{planesOf, LargestLane}
 use Rattle.cores.specs.Rows.{graph}
-use Rattle.innermost.specs.Counting.{Counting, Climbing}
+use Rattle.innermost.specs.Degrees.{numberOf, Counting}
+use Rattle.innermost.specs.Rising.{Climbing}
 use Rattle.innermost.proofs.Climbing.{climbing-start, climbing-jump, lanes-small, lanes-least}
 use Rattle.innermost.proofs.rising.start.Statement.{statement}
 use Rattle.innermost.proofs.rising.start.Tie as tie
 
--- the base is a set of badges that a word holds
-wide : (c : tie.Start) → members (c .args .base) < 2 ^ capacity
-wide c = omega arith
-
 -- its in-degrees are counted at the order after the lowest
-counted : (c : tie.After-count) → let a = c .before .before .args in Counting (graph (a .rows .now)) (members (a .base)) (a .above + 1) (planesOf (c .count .result))
+counted : (c : tie.After-count) → let a = c .before .before .args in Counting (graph (a .rows .now)) (members (a .base)) (a .above + 1) (numberOf (c .count .result))
 counted c =
     let w = c .before in
     let e : w .widen .result + 1 ≡ w .before .args .above + 1 = omega arith in
     rw e at (c .count .ensures)
 
 -- no core is known yet
-lowest : (c : tie.After-count) → let a = c .before .before .args in Climbing (graph (a .rows .now)) (members (a .base)) (members (a .query)) (a .above) (a .stop) (a .above) 0 (members (a .base)) (planesOf (c .count .result))
+lowest : (c : tie.After-count) → let a = c .before .before .args in Climbing (graph (a .rows .now)) (members (a .base)) (members (a .query)) (a .above) (a .stop) (a .above) 0 (members (a .base)) (numberOf (c .count .result))
 lowest c = climbing-start _ (omega arith) (counted c)
-
--- the largest number in its lanes
-lanes : (c : tie.After-largest) → let n = c .before .before .before .before in LargestLane (members (n .before .before .args .base)) (planesOf (n .count .result)) (c .largest .result)
-lanes c = rw (c .before .to-word .ensures) at (c .largest .ensures)
 
 widen-requires : tie.Need-widen-requires
 widen-requires c κs = search needs
@@ -53,23 +45,20 @@ widen-requires-2 c κs = search needs
 add-least : tie.Need-add-least
 add-least c = search needs
 
-to-word-requires : tie.Need-to-word-requires
-to-word-requires c κs = search needs
-
 largest-requires : tie.Need-largest-requires
 largest-requires c κs = search needs
 
 sub-least : tie.Need-sub-least
 sub-least c =
-    let n = c .before .before .before .before in
+    let n = c .before .before .before in
     let s = n .before .before in
-    omega (arith, lanes-small (wide s) (counted n) (lanes c) (ltb-true _ _ (and-left _ _ (s .pre .2))))
+    omega (arith, lanes-small (counted n) (c .largest .ensures) (ltb-true _ _ (and-left _ _ (s .pre .2))))
 
 widen-requires-3 : tie.Need-widen-requires-3
 widen-requires-3 c κs = search needs
 
 returns-2 : tie.Need-returns-2
-returns-2 c = lowest (c .before .before .before .before .before .before)
+returns-2 c = lowest (c .before .before .before .before .before)
 
 capped-requires : tie.Need-capped-requires
 capped-requires c κs = search needs
@@ -87,9 +76,9 @@ returns-3 : tie.Need-returns-3
 returns-3 c =
     let w = c .before in
     let l = w .before .before .before .before in
-    let n = l .before .before .before .before in
+    let n = l .before .before .before in
     let s = n .before .before in
-    let least = lanes-least (wide s) (counted n) (lanes l) (w .before .capped .result) (omega arith) in
+    let least = lanes-least (counted n) (l .largest .ensures) (w .before .capped .result) (omega arith) in
     let k : w .widen4 .result + 1 ≡ w .before .capped .result + 1 = omega arith in
     let above = w .before .before in
     climbing-jump least (omega (arith, above .if2 .left, above .before .widen3 .ensures .0, w .before .capped .ensures, s .pre .0)) (omega arith) (s .pre .2) (rw k at (c .count2 .ensures))
@@ -105,7 +94,6 @@ start-spec =
     returns
     widen-requires-2
     add-least
-    to-word-requires
     largest-requires
     sub-least
     widen-requires-3

@@ -41,7 +41,7 @@ same-length c = search needs
 returns : tie.Need-returns
 returns c =
     let a = c .before .before .before .before .before .before .before .before .before .before .before .args in
-    rw (record-at (a .report .now) (a .at) (c .before .before .before .before .before .before .before .before .byte-at .ensures) (c .before .before .before .before .before .before .before .byte-at2 .ensures) (c .before .before .before .before .before .before .byte-at3 .ensures) (c .before .before .before .before .from-word .ensures ∙ c .before .before .before .before .before .word-at .ensures))
+    rw (record-at (a .report .now) (a .at) (a .width) (c .before .before .before .before .before .before .before .before .before .before .before .pre .0) (c .before .before .before .before .before .before .before .before .byte-at .ensures) (c .before .before .before .before .before .before .before .byte-at2 .ensures) (c .before .before .before .before .before .before .byte-at3 .ensures) (c .before .before .before .before .from-word .ensures ∙ c .before .before .before .before .before .word-at .ensures))
     (c .before .before .group-line .ensures)
 
 pub record-line-spec : {M : Type 1} → statement M

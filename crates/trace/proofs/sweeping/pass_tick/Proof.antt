@@ -52,11 +52,11 @@ unseen-in c =
 few : (c : tie.After-smallest Inv-loop μ-loop) → c .smallest .result < capacity
 few c = omega (arith, unseen-in c .1, c .before .before .before .before .before .before .before .before .pre .0)
 
-add-sources-at : tie.Need-add-sources-at Inv-loop μ-loop
-add-sources-at c = omega (arith, unseen-in c .1, c .before .before .before .before .before .before .before .before .pre .1)
+add-row-at : tie.Need-add-row-at Inv-loop μ-loop
+add-row-at c = omega (arith, unseen-in c .1, c .before .before .before .before .before .before .before .before .pre .1)
 
-sources-at-requires : tie.Need-sources-at-requires Inv-loop μ-loop
-sources-at-requires c κs = omega (arith, unseen-in c .1, c .before .before .before .before .before .before .before .before .pre .1)
+row-at-requires : tie.Need-row-at-requires Inv-loop μ-loop
+row-at-requires c κs = omega (arith, unseen-in c .1, c .before .before .before .before .before .before .before .before .pre .1)
 
 reach-requires : tie.Need-reach-requires Inv-loop μ-loop
 reach-requires c κs = let m = c .before .before in (unseen-in m .1, m .before .before .before .before .before .before .before .before .pre .0, m .before .before .before .loop .inv .0)
@@ -81,8 +81,9 @@ loop-again c =
     let m = at-smallest c in
     let l = m .before .before .before in
     let a = l .before .before .before .before .before .args in
+    let e = ap (λ (x : ℕ). intersection x (members (a .passing))) (f .row-at .ensures) in
     let g = r .reach .ensures .1 in
-    (ap length g ∙ shown-long _ _ _ _ _ ∙ l .loop .inv .0, rw (stepped c) (turned-more _ _ _ _ (m .smallest .result) (l .loop .inv .1) (unseen-in m .0) (f .sources-at .ensures) (few m) (r .reach .ensures .0) g))
+    (ap length g ∙ shown-long _ _ _ _ _ ∙ l .loop .inv .0, rw (stepped c) (turned-more _ _ _ _ (m .smallest .result) (l .loop .inv .1) (unseen-in m .0) e (few m) (r .reach .ensures .0) g))
 
 same-length : tie.Need-same-length Inv-loop μ-loop
 same-length c = search needs
@@ -101,8 +102,8 @@ pass-tick-spec =
     loop-holds
     is-empty-requires
     smallest-requires
-    add-sources-at
-    sources-at-requires
+    add-row-at
+    row-at-requires
     reach-requires
     rest-requires
     loop-less
