@@ -2,6 +2,7 @@
 ghost use mathlib.Core.Path.{_≡_};
 ghost use Rattle.spans.specs.Encoding.{formOf};
 ghost use Rattle.groups.specs.Appending.{formIn};
+use sets::WORD_BITS;
 
 // The marks of a report, of its groups, of a plan and of its parts, and the bytes of a set.
 pub(crate) struct Form {
@@ -16,7 +17,7 @@ pub(crate) struct Form {
 pub(crate) fn form_of(badges: usize) -> Form
     ensures { λ r. ⌜ formIn r ≡ formOf badges ⌝ }
 {
-    if badges <= 64 {
+    if badges <= WORD_BITS {
         return Form {
             report: [b'R', b'H'],
             group: [b'G', b'R'],
