@@ -8,9 +8,6 @@
 #include "show.h"
 #include "ward.h"
 
-/* Badges 1 and 3. */
-#define CLEANING_STAFF ((uint64_t)1 << 1 | (uint64_t)1 << 3)
-
 int main(int argc, char **argv) {
     static uint8_t plan[WARD_PLAN_BYTES];
     static uint64_t words[WARD_WORDS];
@@ -22,15 +19,16 @@ int main(int argc, char **argv) {
 
     read_log(argv[1], words, answer);
     size_t badges = answer[WARD_BADGES], ticks = answer[WARD_TICKS];
-    uint64_t everyone = ward_all_badges(badges);
+    ward_set everyone = ward_all_badges(badges), nobody = {0, 0};
 
     print_groups(words, badges, ticks, everyone);
     printf("without badges 1 and 3\n");
-    print_groups(words, badges, ticks, everyone & ~CLEANING_STAFF);
+    print_groups(words, badges, ticks, ward_without(ward_without(everyone, 1), 3));
 
-    size_t badge = strtoul(argv[2], NULL, 10) % 64, parts = strtoul(argv[3], NULL, 10);
-    ward_plan(words, WARD_WORDS, badges, ticks, everyone, (uint64_t)1 << badge, parts, plan, sizeof plan, answer);
+    ward_set query = ward_with(nobody, strtoul(argv[2], NULL, 10));
+    size_t parts = strtoul(argv[3], NULL, 10);
+    ward_plan(words, WARD_WORDS, badges, ticks, everyone.low, everyone.high, query.low, query.high, parts, plan, sizeof plan, answer);
     check(answer);
-    print_records("score", plan, 13, answer[WARD_COUNT]);
+    print_records("score", badges, plan, 5 + ward_set_bytes(badges), answer[WARD_COUNT]);
     return 0;
 }

@@ -35,33 +35,36 @@ static inline void read_log(const char *name, uint64_t *words, uint64_t answer[5
     check(answer);
 }
 
-/* The badges of a set with bit u for badge u, rising, and the end of the line. */
-static inline void print_badges(uint64_t set) {
+/* The badges of a set, rising, and the end of the line. */
+static inline void print_badges(ward_set set) {
     printf(" badges");
-    for (int u = 0; u < 64; u++)
-        if (set >> u & 1)
-            printf(" %d", u);
+    for (size_t u = 0; u < 128; u++)
+        if (ward_has(set, u))
+            printf(" %zu", u);
     printf("\n");
 }
 
-/* A record of a report or a plan has 13 bytes: a mark of two, an order or score, first and last tick, and members in eight. */
-static inline void print_records(const char *what, const uint8_t *bytes, size_t header, size_t size) {
-    for (size_t at = header; at + 6 < size; at += 13) {
-        uint64_t members = 0;
-        for (int i = 7; i >= 0; i--)
-            members = members * 256 + bytes[at + 5 + i];
+/* The records of a report or a plan of a day of so many badges, after a header of so many bytes and before the end. A record has a mark of two bytes,
+ * an order or score, first and last tick, and members in 8 bytes or 16, the lowest badges first. */
+static inline void print_records(const char *what, size_t badges, const uint8_t *bytes, size_t header, size_t size) {
+    size_t set_bytes = ward_set_bytes(badges);
+    for (size_t at = header; at + 6 < size; at += 5 + set_bytes) {
+        ward_set members = {0, 0};
+        for (size_t u = 0; u < 8 * set_bytes; u++)
+            if (bytes[at + 5 + u / 8] >> (u % 8) & 1)
+                members = ward_with(members, u);
         printf("%s %d ticks %d to %d", what, bytes[at + 2], bytes[at + 3], bytes[at + 4]);
         print_badges(members);
     }
 }
 
-/* The groups of a day among the badges under review, a set with bit u for badge u. Thresholds 1, 1 and 2 keep every group. */
-static inline void print_groups(const uint64_t *words, size_t badges, size_t ticks, uint64_t review) {
+/* The groups of a day among the badges under review. Thresholds 1, 1 and 2 keep every group. */
+static inline void print_groups(const uint64_t *words, size_t badges, size_t ticks, ward_set review) {
     static uint8_t report[WARD_REPORT_BYTES];
     uint64_t answer[5];
-    ward_report(words, WARD_WORDS, badges, ticks, review, 1, 1, 2, report, sizeof report, answer);
+    ward_report(words, WARD_WORDS, badges, ticks, review.low, review.high, 1, 1, 2, report, sizeof report, answer);
     check(answer);
-    print_records("order", report, 4, answer[WARD_COUNT]);
+    print_records("order", badges, report, 4, answer[WARD_COUNT]);
 }
 
 #endif

@@ -12,7 +12,8 @@
 int main(int argc, char **argv) {
     static uint64_t words[WARD_WORDS];
     uint8_t trace[WARD_TRACE_BYTES];
-    uint64_t answer[5], never = 0;
+    uint64_t answer[5];
+    ward_set never = {0, 0};
     if (argc != 4) {
         fprintf(stderr, "usage: trace LOG BADGE TICK\n");
         return 2;
@@ -31,8 +32,8 @@ int main(int argc, char **argv) {
                 printf("badge %zu in tick %zu from badge %d\n", u, t, trace[badges + u]);
     for (size_t u = 0; u < badges; u++)
         if (trace[u] == WARD_NONE)
-            never |= (uint64_t)1 << u;
-    if (never != 0) {
+            never = ward_with(never, u);
+    if ((never.low | never.high) != 0) {
         printf("never reached:");
         print_badges(never);
     }

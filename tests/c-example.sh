@@ -63,6 +63,36 @@ order 1 ticks 0 to 1 badges 4 5
 score 2 ticks 0 to 1 badges 0 1 2 3 4 5
 TEXT
 
+# 65 badges in two ticks: badges 0, 63 and 64 are together in both, and badges 62 and 63 in the second. The sets of a report have 16 bytes then. A
+# plan around badge 64, and around one that the day does not have, badge 65.
+printf 'BH\101\2CT\77\100\0\1CT\0\100\0\1CT\77\0\0\1CT\76\77\1\1ED\4\0\0\0' > "$scratch/wide.log"
+try groups "$scratch/wide.log" 64 2 3<<'TEXT'
+order 2 ticks 0 to 1 badges 0 63 64
+without badges 1 and 3
+order 2 ticks 0 to 1 badges 0 63 64
+score 2 ticks 0 to 0 badges 0 63 64
+score 2 ticks 1 to 1 badges 0 63 64
+TEXT
+try groups "$scratch/wide.log" 65 2 3<<'TEXT'
+order 2 ticks 0 to 1 badges 0 63 64
+without badges 1 and 3
+order 2 ticks 0 to 1 badges 0 63 64
+refused 13 at 0
+TEXT
+
+# 128 badges, the most that there can be: the last and the first; and 129.
+printf 'BH\200\1CT\177\0\0\0ED\1\0\0\0' > "$scratch/widest.log"
+try groups "$scratch/widest.log" 127 1 3<<'TEXT'
+order 1 ticks 0 to 0 badges 0 127
+without badges 1 and 3
+order 1 ticks 0 to 0 badges 0 127
+score 1 ticks 0 to 0 badges 0 127
+TEXT
+printf 'BH\201\1CT\177\0\0\0ED\1\0\0\0' > "$scratch/too-wide.log"
+try groups "$scratch/too-wide.log" 0 1 3<<'TEXT'
+refused 3 at 0
+TEXT
+
 # A file that is no log: refused by its mark.
 try groups README.md 0 1 3<<'TEXT'
 refused 2 at 0
@@ -80,6 +110,12 @@ try receivers 2 examples/ward-east.log examples/ward-west.log 3<<'TEXT'
 order 2 ticks 1 to 1 badges 0 1 2
 order 1 ticks 1 to 2 badges 0 1 2
 order 1 ticks 2 to 3 badges 3 4
+TEXT
+
+# Two receivers of 65 badges, of which the second heard badges 63 and 64 alone.
+printf 'BH\101\2CT\77\100\0\1ED\1\0\0\0' > "$scratch/wide-west.log"
+try receivers 2 "$scratch/wide.log" "$scratch/wide-west.log" 3<<'TEXT'
+order 1 ticks 0 to 1 badges 63 64
 TEXT
 
 # A quorum of three of two logs; a second that is no log, after the 40 bytes of the first; and D1's as the second, of another shift.
@@ -113,6 +149,13 @@ badge 3 from tick 0
 badge 2 in tick 0 from badge 3
 badge 0 in tick 1 from badge 2
 badge 1 in tick 1 from badge 2
+TEXT
+
+# 65 badges from badge 62, in the second tick; badge 64 is never reached, nor badge 0.
+try trace "$scratch/wide.log" 62 0 3<<'TEXT'
+badge 62 from tick 0
+badge 63 in tick 1 from badge 62
+never reached: badges 0 1 2 3 4 5 6 7 8 9 10 11 12 13 14 15 16 17 18 19 20 21 22 23 24 25 26 27 28 29 30 31 32 33 34 35 36 37 38 39 40 41 42 43 44 45 46 47 48 49 50 51 52 53 54 55 56 57 58 59 60 61 64
 TEXT
 
 # From the last tick on, nobody; then a badge and a tick that the day does not have, and a file that is no log.

@@ -6,12 +6,13 @@
 # second table has the plan around badges 0 and 1 in 8 and in 32 parts, made by the engine and, as 'bitplan', by the baseline with bitsets. The third
 # has the trace from badge 0 at tick 0, made by the engine and, as 'bittrace', by the baseline with sets in words, and 'checked', the engine's trace
 # from badge n, which is refused directly after the check of the words; what the engine's trace itself takes, their difference, stands last, divided
-# by the number of words of the day, badges times ticks: instructions a word, and no millions. The fourth has the engine's core numbers of ticks 0 to
-# 3, write, and read and tidy of the day's log. The fifth has the join of the logs of 2 and of 4 receivers at quorum 2, each with each run of the
-# day's log with probability 3/4, and before it the reads of the same logs, one after the other. In these two there is a '-' where a day has no log,
-# having more than 8,000 runs. Each count is of one call, or of the reads of 2 or 4 logs, in a new process.
-# Needs cargo, valgrind, and target/staticlib/libward.a, which `rt staticlib ward` writes. Its arguments are the days, all six if there are none;
-# there is one more, 'circles', of which every core falls apart.
+# by the number of sets of the day, badges times ticks: instructions a set, and no millions. The fourth has the engine's core numbers of ticks 0 to 3,
+# write, and read and tidy of the day's log. The fifth has the join of the logs of 2 and of 4 receivers at quorum 2, each with each run of the day's
+# log with probability 3/4, and before it the reads of the same logs, one after the other. In these two there is a '-' where a day has no log, having
+# more than 8,000 runs. The last has the engine's report, plan in 8 parts and trace on a day of 128 badges and 96 ticks that is made as the named one
+# is, and the ratio of each to that on the day of 64 badges. Each count is of one call, or of the reads of 2 or 4 logs, in a new process. Needs cargo,
+# valgrind, and target/staticlib/libward.a, which `rt staticlib ward` writes. Its arguments are the days, all six if there are none; there is one
+# more, 'circles', of which every core falls apart.
 set -euo pipefail
 source "$(dirname "${BASH_SOURCE[0]}")/counting.sh"
 [ $# -gt 0 ] || set -- sparse busy dense random persistent empty
@@ -53,17 +54,17 @@ for day in "$@"; do
 done
 
 traces=(trace bittrace checked)
-words=$((64 * 96)) # of each of the days
+sets=$((64 * 96)) # of each of the days
 printf '\n%-20s' "trace, millions"
 printf '%12s' "${traces[@]}"
-printf '%16s%24s\n' "engine/bitsets" "(trace-checked)/words"
+printf '%16s%24s\n' "engine/bitsets" "(trace-checked)/sets"
 for day in "$@"; do
     printf '%-20s' "$day"
     for call in "${traces[@]}"; do
         counts[$call]=$(count "$day" "$call")
         millions "${counts[$call]}"
     done
-    printf '%16s%24s\n' "$(ratio "${counts[trace]}" "${counts[bittrace]}")" "$(ratio "$((counts[trace] - counts[checked]))" "$words")"
+    printf '%16s%24s\n' "$(ratio "${counts[trace]}" "${counts[bittrace]}")" "$(ratio "$((counts[trace] - counts[checked]))" "$sets")"
 done
 
 others=(numbers write read tidy)
@@ -92,6 +93,23 @@ for day in "$@"; do
         millions "$reads"
         millions "$join"
         printf '%14s' "$(ratio "$join" "$reads")"
+    done
+    printf '\n'
+done
+
+wide=(engine plan8 trace)
+printf '\n%-20s' "128 badges, millions"
+for call in "${wide[@]}"; do
+    printf '%12s%18s' "$call" "128/64 badges"
+done
+printf '\n'
+for day in "$@"; do
+    printf '%-20s' "$day"
+    for call in "${wide[@]}"; do
+        narrow=$(count "$day" "$call")
+        number=$(count "$day" 128 96 "$call")
+        millions "$number"
+        printf '%18s' "$(ratio "$number" "$narrow")"
     done
     printf '\n'
 done

@@ -12,7 +12,7 @@ echo "| Day | Call | n | T 12 | T 24 | T 48 | T 96 |"
 echo "|---|---|---|---|---|---|---|"
 for day in "$@"; do
     for call in report plan; do
-        for badges in 8 16 32 64; do
+        for badges in 8 16 32 64 128; do
             printf '| %s | %s | %s |' "$day" "$call" "$badges"
             for ticks in 12 24 48 96; do
                 number=$(count "$day" "$badges" "$ticks" "${calls[$call]}")

@@ -39,8 +39,10 @@ static uint8_t *region(void) {
     return all + PAGE;
 }
 
-static void writable(uint8_t *at, int yes) {
-    if (mprotect(at, ROOM, yes ? PROT_READ | PROT_WRITE : PROT_READ) != 0) {
+/* Lets the pages of so many bytes be written, or only be read. */
+static void writable(void *lent, size_t size, int yes) {
+    uint8_t *page = (uint8_t *)((uintptr_t)lent / PAGE * PAGE);
+    if (mprotect(page, (size_t)((uint8_t *)lent + size - page), yes ? PROT_READ | PROT_WRITE : PROT_READ) != 0) {
         perror("mprotect");
         exit(2);
     }
@@ -49,19 +51,22 @@ static void writable(uint8_t *at, int yes) {
 /* So many bytes at the front or at the back of a region. */
 static void *flush(uint8_t *at, size_t size) { return below(2) ? at : at + ROOM - size; }
 
+/* Puts badge v into the set of badge u in tick t of a day of n badges. */
+static void put(uint64_t *words, size_t n, size_t t, size_t u, size_t v) { words[2 * (t * n + u) + v / 64] |= (uint64_t)1 << (v % 64); }
+
 /* Words of a random day, or of none: mostly with many contacts, else with few, or in teams of from 2 to 9 that never meet. */
 static void fill_words(uint64_t *words, size_t len, size_t n, size_t ticks) {
-    size_t few = below(4) == 0, team = below(4) == 0 ? 2 + below(8) : 64;
+    size_t few = below(4) == 0, team = below(4) == 0 ? 2 + below(8) : 128;
     for (size_t i = 0; i < len; i++)
         words[i] = 0;
-    if (n == 0 || n > 64)
+    if (n == 0 || n > 128)
         return;
-    for (size_t t = 0; t < ticks && (t + 1) * n <= len; t++)
+    for (size_t t = 0; t < ticks && 2 * (t + 1) * n <= len; t++)
         for (size_t u = 0; u < n; u++)
             for (size_t v = u + 1; v < n; v++)
                 if (u / team == v / team && (few ? below(n) == 0 : below(3) != 0)) {
-                    words[t * n + u] |= (uint64_t)1 << v;
-                    words[t * n + v] |= (uint64_t)1 << u;
+                    put(words, n, t, u, v);
+                    put(words, n, t, v, u);
                 }
     if (len > 0 && below(4) == 0)
         words[below(len)] ^= (uint64_t)1 << below(64);
@@ -88,7 +93,7 @@ static size_t fill_log(uint8_t *log, size_t n, size_t ticks) {
 }
 
 static size_t odd_size(size_t usual, size_t most) {
-    static const size_t odd[] = {0, 65, 97, 1000, SIZE_MAX, (size_t)1 << 58};
+    static const size_t odd[] = {0, 97, 129, 1000, SIZE_MAX, (size_t)1 << 58};
     return below(20) == 0 ? odd[below(6)] : 1 + below(usual < most ? usual : most);
 }
 
@@ -104,16 +109,21 @@ static size_t threshold(size_t from, size_t to) {
     return below(20) == 0 ? odd[below(5)] : from + below(3);
 }
 
+static ward_set both(ward_set a, ward_set b) {
+    ward_set set = {a.low & b.low, a.high & b.high};
+    return set;
+}
+
 /* Badges under review: mostly many of those that a day of n has, sometimes none, and sometimes any. */
-static uint64_t random_review(size_t n) {
-    uint64_t many = next() | next();
-    return below(20) == 0 ? 0 : below(20) == 0 ? many : many & ward_all_badges(n);
+static ward_set random_review(size_t n) {
+    ward_set none = {0, 0}, many = {next() | next(), next() | next()};
+    return below(20) == 0 ? none : below(20) == 0 ? many : both(many, ward_all_badges(n));
 }
 
 /* A query: mostly few of the badges under review, and else few up to badge n. */
-static uint64_t random_query(size_t n, uint64_t review) {
-    uint64_t few = next() & next() & next();
-    return few & (below(4) == 0 ? ward_all_badges(n + 1) : review);
+static ward_set random_query(size_t n, ward_set review) {
+    ward_set few = {next() & next() & next(), next() & next() & next()};
+    return both(few, below(4) == 0 ? ward_all_badges(n == SIZE_MAX ? n : n + 1) : review);
 }
 
 /* Random logs end to end, mostly of one shift, and their lengths; gives how many bytes. Sometimes a length is off by one, and perhaps another so that
@@ -158,15 +168,16 @@ static const uint32_t refusals[CALLS] = {LOG | GIVES(WARD_TOO_FEW_WORDS),
                                          REVIEW | GIVES(WARD_FOREIGN_QUERY) | GIVES(WARD_QUERY_NOT_REVIEWED) | GIVES(WARD_INVALID_PARTS)};
 
 /* Whether the five numbers, all ones before the call, are an answer: a refusal of the call by its number and offset, or a success by its values,
- * and else 0. A report has whole records. */
-static int is_answer(size_t call, const uint64_t answer[5]) {
+ * and else 0. A report or a plan of a day of n badges has whole records. */
+static int is_answer(size_t call, size_t n, const uint64_t answer[5]) {
+    size_t record = 5 + ward_set_bytes(n);
     uint64_t number = answer[WARD_NUMBER], badges = answer[WARD_BADGES], ticks = answer[WARD_TICKS], count = answer[WARD_COUNT];
     if (number != WARD_SUCCESS)
         return number < 32 && refusals[call] >> number & 1 && (number <= WARD_TRAILING_BYTES || answer[WARD_OFFSET] == 0) &&
                (badges | ticks | count) == 0;
     int finds_size = call == READ || call == JOIN;
-    return answer[WARD_OFFSET] == 0 && (call == JOIN ? count == 0 : count <= WARD_REPORT_BYTES) && (call != REPORT || count % 13 == 10) &&
-           (finds_size ? badges >= 1 && badges <= 64 && ticks >= 1 && ticks <= 96 : (badges | ticks) == 0);
+    return answer[WARD_OFFSET] == 0 && (call == JOIN ? count == 0 : count <= WARD_REPORT_BYTES) && (call != REPORT || count % record == 10) &&
+           (call != PLAN || count % record == 6) && (finds_size ? badges >= 1 && badges <= 128 && ticks >= 1 && ticks <= 96 : (badges | ticks) == 0);
 }
 
 /* Whether the words from one index up to another all have a value; not where the other is smaller. */
@@ -185,7 +196,7 @@ static int join(size_t n, size_t ticks, uint64_t *answer) {
     static uint8_t logs[4096];
     size_t count = below(20) == 0 ? below(MOST_LOGS + 1) : 2 + below(3);
     size_t quorum = odd_size(count + (count == 0 || below(10) == 0), MOST_LOGS + 1);
-    size_t words_len = about(n * ticks), work_len = about(count * n * ticks);
+    size_t words_len = about(2 * n * ticks), work_len = about(2 * count * n * ticks);
     size_t *lengths = flush(lengths_at, count * sizeof *lengths);
     size_t size = fill_logs(logs, lengths, count, n, ticks);
     uint64_t *words = flush(words_at, words_len * 8), *work = flush(work_at, work_len * 8);
@@ -193,12 +204,12 @@ static int join(size_t n, size_t ticks, uint64_t *answer) {
     memcpy(bytes, logs, size);
     memset(words, 255, words_len * 8);
     memset(work, 255, work_len * 8);
-    writable(in, 0);
-    writable(lengths_at, 0);
+    writable(bytes, size, 0);
+    writable(lengths, count * sizeof *lengths, 0);
     ward_join(bytes, size, lengths, count, quorum, words, words_len, work, work_len, answer);
-    writable(in, 1);
-    writable(lengths_at, 1);
-    size_t day = answer[WARD_BADGES] * answer[WARD_TICKS];
+    writable(bytes, size, 1);
+    writable(lengths, count * sizeof *lengths, 1);
+    size_t day = 2 * answer[WARD_BADGES] * answer[WARD_TICKS];
     return all_are(UINT64_MAX, words, day, words_len) && all_are(UINT64_MAX, work, count * day, work_len) && all_are(0, work, 0, count * day);
 }
 
@@ -208,12 +219,12 @@ static void call_on_log(size_t call, size_t n, size_t ticks, uint64_t *words, si
     size_t size = fill_log(log, n, ticks);
     uint8_t *bytes = flush(in, size);
     memcpy(bytes, log, size);
-    writable(in, 0);
+    writable(bytes, size, 0);
     if (call == READ)
         ward_read(bytes, size, words, words_len, answer);
     else
         ward_tidy(bytes, size, words, words_len, out, out_len, answer);
-    writable(in, 1);
+    writable(bytes, size, 1);
 }
 
 /* Whether a trace of 2n bytes, from an index at a start, can be one: the index has the start and no source, and every other badge either neither tick
@@ -222,7 +233,7 @@ static int is_trace(const uint64_t *words, size_t n, size_t ticks, size_t index,
     for (size_t u = 0; u < n; u++) {
         size_t tick = trace[u], source = trace[n + u];
         int none = source == WARD_NONE && tick == (u == index ? start : WARD_NONE);
-        int reached = u != index && start <= tick && tick < ticks && source < n && words[tick * n + u] >> source & 1 &&
+        int reached = u != index && start <= tick && tick < ticks && source < n && ward_has(ward_contacts(words, n, tick, u), source) &&
                       (source == index || trace[source] < tick);
         if (!none && !reached)
             return 0;
@@ -237,9 +248,9 @@ static int trace(size_t n, size_t ticks, uint64_t *words, size_t words_len, uint
     int of_the_day = index < n && start < ticks;
     memset(out, 0x5a, out_len);
     fill_words(words, words_len, n, ticks);
-    writable(words_at, 0);
+    writable(words, words_len * 8, 0);
     ward_trace(words, words_len, n, ticks, index, start, out, out_len, answer);
-    writable(words_at, 1);
+    writable(words, words_len * 8, 1);
     if (answer[WARD_NUMBER] == WARD_INVALID_START && of_the_day)
         return 0;
     if (answer[WARD_NUMBER] == WARD_SUCCESS) {
@@ -254,18 +265,19 @@ static int trace(size_t n, size_t ticks, uint64_t *words, size_t words_len, uint
 
 /* A call on the words of a random day, or of none, lent bytes. */
 static void call_on_words(size_t call, size_t n, size_t ticks, uint64_t *words, size_t words_len, uint8_t *out, size_t out_len, uint64_t *answer) {
-    uint64_t review = random_review(n);
+    ward_set review = random_review(n), query = random_query(n, review);
     fill_words(words, words_len, n, ticks);
-    writable(words_at, 0);
+    writable(words, words_len * 8, 0);
     if (call == WRITE)
         ward_write(words, words_len, n, ticks, out, out_len, answer);
     else if (call == CORE_NUMBERS)
-        ward_core_numbers(words, words_len, n, ticks, review, below(ticks % 99 + 1), below(ticks % 99 + 1), out, out_len, answer);
+        ward_core_numbers(words, words_len, n, ticks, review.low, review.high, below(ticks % 99 + 1), below(ticks % 99 + 1), out, out_len, answer);
     else if (call == REPORT)
-        ward_report(words, words_len, n, ticks, review, threshold(1, 96), threshold(1, 63), threshold(2, 64), out, out_len, answer);
+        ward_report(words, words_len, n, ticks, review.low, review.high, threshold(1, 96), threshold(1, 127), threshold(2, 128), out, out_len,
+                    answer);
     else
-        ward_plan(words, words_len, n, ticks, review, random_query(n, review), below(9), out, out_len, answer);
-    writable(words_at, 1);
+        ward_plan(words, words_len, n, ticks, review.low, review.high, query.low, query.high, below(9), out, out_len, answer);
+    writable(words, words_len * 8, 1);
 }
 
 int main(int argc, char **argv) {
@@ -278,22 +290,24 @@ int main(int argc, char **argv) {
     out_at = region();
     answer_at = region();
     for (size_t i = 0; i < calls; i++) {
-        size_t call = below(CALLS), large = below(2000) == 0;
-        size_t n = odd_size(large ? 64 : 8, 64), ticks = odd_size(large ? 96 : 8, 96);
-        size_t words_len = large ? ROOM / 8 : below(80), out_len = below(4) == 0 ? below(40) : large ? ROOM : below(600);
+        /* mostly small days; some about as many badges as one word holds, or two words, in few ticks; and some of any size */
+        size_t call = below(CALLS), wide = below(50) == 0, large = below(4000) == 0;
+        size_t n = large ? odd_size(128, 128) : wide ? (below(2) ? 60 : 120) + below(10) : odd_size(8, 8);
+        size_t ticks = large ? odd_size(96, 96) : wide ? 1 + below(3) : odd_size(8, 8);
+        size_t words_len = large ? ROOM / 8 : wide ? below(800) : below(160), out_len = below(4) == 0 ? below(40) : large || wide ? ROOM : below(600);
         uint64_t *answer = flush(answer_at, 40), *words = flush(words_at, words_len * 8);
         uint8_t *out = flush(out_at, out_len);
         int kept = 1;
         memset(answer, 255, 40);
         if (call == JOIN)
-            kept = join(1 + n % 66, 1 + ticks % 98, answer);
+            kept = join(1 + n % 130, 1 + ticks % 98, answer);
         else if (call == TRACE)
             kept = trace(n, ticks, words, words_len, out, out_len, answer);
         else if (call == READ || call == TIDY)
-            call_on_log(call, 1 + n % 66, 1 + ticks % 98, words, words_len, out, out_len, answer);
+            call_on_log(call, 1 + n % 130, 1 + ticks % 98, words, words_len, out, out_len, answer);
         else
             call_on_words(call, n, ticks, words, words_len, out, out_len, answer);
-        if (!kept || !is_answer(call, answer)) {
+        if (!kept || !is_answer(call, n, answer)) {
             printf("call %zu, %s: not what the header says\n", i, names[call]);
             return 1;
         }

@@ -50,6 +50,41 @@ try "$scratch/cut" 5 "$scratch/cut.txt"
 echo "refused 7 at 34" > "$scratch/long.txt"
 try "$scratch/long" 4096 "$scratch/long.txt"
 
+# More than 64 badges: the program has 12,288 words, which are enough for 128 badges in 48 ticks, and for every day of up to 64 badges. A day that
+# needs more is refused, and so is one of more than 128 badges. Badges 9 and 127 are in contact in tick 47; then badges 10 and 63 in tick 95.
+printf 'BH\x80\x30CT\x7f\x09\x2f\x2fED\x01\x00\x00\x00' > "$scratch/wide"
+printf 'badges 128 ticks 48 groups 1\norder 1 ticks 47 to 47 badges 9 127\n' > "$scratch/wide.txt"
+try "$scratch/wide" 5 "$scratch/wide.txt"
+printf 'BH\x80\x31CT\x7f\x09\x2f\x2fED\x01\x00\x00\x00' > "$scratch/wider"
+echo "refused 8 at 0" > "$scratch/wider.txt"
+try "$scratch/wider" 5 "$scratch/wider.txt"
+printf 'BH\x41\x5fED\x00\x00\x00\x00' > "$scratch/longer"
+try "$scratch/longer" 4 "$scratch/wider.txt"
+printf 'BH\x81\x01ED\x00\x00\x00\x00' > "$scratch/too-wide"
+echo "refused 3 at 0" > "$scratch/too-wide.txt"
+try "$scratch/too-wide" 4 "$scratch/too-wide.txt"
+printf 'BH\x40\x60CT\x3f\x0a\x5f\x5fED\x01\x00\x00\x00' > "$scratch/full"
+printf 'badges 64 ticks 96 groups 1\norder 1 ticks 95 to 95 badges 10 63\n' > "$scratch/full.txt"
+try "$scratch/full" 5 "$scratch/full.txt"
+
+# 128 badges in 48 ticks, each in contact with all but three of the others from tick 10 on: one group, and the longest line that there is, 434 bytes.
+# In a log of 7,936 contacts, 47,626 bytes.
+log_of_one_group() {
+    local u v record
+    printf 'BH\x80\x30'
+    for ((u = 0; u < 128; u++)); do
+        for ((v = u + 2; v < 128; v++)); do
+            ((v - u == 64 || v - u == 127)) && continue
+            printf -v record 'CT\\x%x\\x%x\\x0a\\x2f' "$u" "$v"
+            printf "$record"
+        done
+    done
+    printf 'ED\x00\x1f\x00\x00'
+}
+log_of_one_group > "$scratch/line"
+printf 'badges 128 ticks 48 groups 1\norder 124 ticks 10 to 47 badges%s\n' "$(printf ' %d' {0..127})" > "$scratch/line.txt"
+try "$scratch/line" 4096 "$scratch/line.txt"
+
 # A log of 64 badges and 96 ticks with so many contacts. Contact k, with s for k / 64, is of badge k mod 64 and the one whose number differs from that
 # in the binary digit s mod 4 alone, in ticks s - 2 to s, as far as there are such.
 log_by_digits() {

@@ -10,7 +10,7 @@
 
 #include "ward.h"
 
-enum { PAGE = 4096, STACK = 1 << 20, LIMIT = 256 << 10, N = 64, TICKS = 96, PAIRS = N * (N - 1) / 2, RECORDS = 8000, LOGS = 4 };
+enum { PAGE = 4096, STACK = 1 << 20, LIMIT = 256 << 10, N = 128, TICKS = 96, RECORDS = 8000, LOGS = 4 };
 enum { READ, JOIN, TIDY, WRITE, TRACE, CORE_NUMBERS, REPORT, PLAN, CALLS };
 
 static const char *const names[CALLS] = {"ward_read",  "ward_join",         "ward_tidy",   "ward_write",
@@ -18,7 +18,8 @@ static const char *const names[CALLS] = {"ward_read",  "ward_join",         "war
 
 /* What the next call takes, and what the calls fill. */
 static int call;
-static uint64_t words[WARD_WORDS], review, query;
+static uint64_t words[WARD_WORDS];
+static ward_set review, query;
 static uint8_t log_bytes[WARD_LOG_BYTES], logs[LOGS * WARD_LOG_BYTES];
 static size_t log_size, logs_size, lengths[LOGS], quorum, badge, start, last, parts, least_ticks;
 static uint64_t work[WARD_WORDS], join_work[WARD_JOIN_WORK_WORDS], answer[5];
@@ -40,11 +41,11 @@ static void make_call(void) {
     else if (call == TRACE)
         ward_trace(words, WARD_WORDS, N, TICKS, badge, start, out, sizeof out, answer);
     else if (call == CORE_NUMBERS)
-        ward_core_numbers(words, WARD_WORDS, N, TICKS, review, 0, last, out, sizeof out, answer);
+        ward_core_numbers(words, WARD_WORDS, N, TICKS, review.low, review.high, 0, last, out, sizeof out, answer);
     else if (call == REPORT)
-        ward_report(words, WARD_WORDS, N, TICKS, review, least_ticks, 1, 2, out, sizeof out, answer);
+        ward_report(words, WARD_WORDS, N, TICKS, review.low, review.high, least_ticks, 1, 2, out, sizeof out, answer);
     else
-        ward_plan(words, WARD_WORDS, N, TICKS, review, query, parts, out, sizeof out, answer);
+        ward_plan(words, WARD_WORDS, N, TICKS, review.low, review.high, query.low, query.high, parts, out, sizeof out, answer);
 }
 
 /* How deep the call goes, by bytes that are not the pattern after it. */
@@ -88,12 +89,13 @@ static void fill_words(size_t density, size_t keep) {
             for (size_t t = 0, met = 0; t < TICKS; t++) {
                 if (t == 0 || below(100) >= keep)
                     met = below(100) < density;
-                words[t * N + u] |= (uint64_t)met << v;
-                words[t * N + v] |= (uint64_t)met << u;
+                words[2 * (t * N + u) + v / 64] |= (uint64_t)met << (v % 64);
+                words[2 * (t * N + v) + u / 64] |= (uint64_t)met << (u % 64);
             }
 }
 
-/* A log of as many contact records as there may be, each a run of its own, from a tick on; gives how many bytes. */
+/* A log of as many contact records as there may be, each a run of its own, from a tick on: of each badge with the 16 after it; gives how many bytes.
+ * */
 static size_t fill_log(uint8_t *log, size_t tick) {
     static const uint8_t header[4] = {'B', 'H', N, TICKS}, end[6] = {'E', 'D', RECORDS & 255, RECORDS >> 8, 0, 0};
     uint8_t *at = log;
@@ -101,7 +103,7 @@ static size_t fill_log(uint8_t *log, size_t tick) {
     at += 4;
     for (size_t count = 0; count < RECORDS; tick += 2)
         for (size_t u = 0; u < N; u++)
-            for (size_t v = u + 1; v < N && count < RECORDS; v++, count++, at += 6) {
+            for (size_t v = u + 1; v < N && v <= u + 16 && count < RECORDS; v++, count++, at += 6) {
                 const uint8_t contact[6] = {'C', 'T', (uint8_t)v, (uint8_t)u, (uint8_t)tick, (uint8_t)tick};
                 memcpy(at, contact, 6);
             }
@@ -116,9 +118,9 @@ static void fill_logs(void) {
 }
 
 /* The calls that take badges under review, with these. */
-static void measure_review(uint64_t badges) {
+static void measure_review(ward_set badges) {
     static const size_t many[] = {1, 2, 8, 48, TICKS};
-    const uint64_t queries[] = {0, 3, badges};
+    const ward_set queries[] = {{0, 0}, {3, 0}, badges};
     review = badges;
     for (size_t i = 0; i < 5; i++) {
         least_ticks = many[i];
@@ -145,12 +147,13 @@ static void measure_traces(void) {
     }
 }
 
-/* The calls on words, with all badges under review and with half of them. */
+/* The calls on words, with all badges under review, with half of them and with a quarter. */
 static void measure_words(void) {
     measure(WRITE);
     measure_traces();
     measure_review(ward_all_badges(N));
     measure_review(ward_all_badges(N / 2));
+    measure_review(ward_all_badges(N / 4));
 }
 
 int main(void) {

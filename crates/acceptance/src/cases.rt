@@ -27,7 +27,7 @@ fn lent_bytes() -> [u8; ROOM]
 
 // Words as they are before a call.
 pub(crate) fn lent_words() -> [u64; MAX_WORDS]
-    ensures { λ r. ⌜ 6144 ≡ length r ⌝ }
+    ensures { λ r. ⌜ 12288 ≡ length r ⌝ }
 {
     [PATTERN; MAX_WORDS]
 }

@@ -1,12 +1,17 @@
-// Document 01's cases that are not proved: 64 badges all in contact; n 65 or T 97; 8,000 contacts. What the second implementation gives is
-// written by hand, and the product has to agree with it.
+// Document 01's cases that are not proved, and those of document 02's request Nine: 64 badges all in contact, and 128; n 129 or T 97; 8,000 contacts. What
+// the second implementation gives is written by hand, and the product has to agree with it; above 64 badges the product is held against the bytes alone.
 ghost use mathlib.Core.Path.{_≡_};
 ghost use lib.ListN.{length};
+use crate::answers::reads_as;
+use crate::answers::writes_groups;
+use crate::answers::writes_log;
 use crate::cases;
 use crate::long_logs::Rule;
 use crate::long_logs::long_log;
 use check::same;
+use groups::Thresholds;
 use reference::Bytes;
+use reference::FILLER;
 use reference::MAX_WORDS;
 use reference::Tally;
 use reference::Verdict;
@@ -15,14 +20,29 @@ use reference::core_numbers;
 use reference::first_bytes;
 use reference::judge;
 use reference::report;
+use sets::BadgeSet;
+
+// The words of the largest day.
+const WIDE_WORDS: usize = 24576;
 
 // The words of 64 badges that are all in contact in 96 ticks.
 fn all_in_contact() -> [u64; MAX_WORDS]
-    ensures { λ r. ⌜ 6144 ≡ length r ⌝ }
+    ensures { λ r. ⌜ 12288 ≡ length r ⌝ }
 {
-    let mut words = cases::lent_words();
-    for i in 0..MAX_WORDS {
-        words[i] = 0xffff_ffff_ffff_ffff ^ (1 << (i % 64));
+    let mut words = [0u64; MAX_WORDS];
+    for i in 0..6144usize {
+        words[2 * i] = 0xffff_ffff_ffff_ffff ^ (1 << (i % 64));
+    }
+    words
+}
+
+// The words of 128 badges that are all in contact in 96 ticks: every bit but that of the badge itself, in its first word or its second.
+fn all_of_128() -> [u64; WIDE_WORDS]
+    ensures { λ r. ⌜ 24576 ≡ length r ⌝ }
+{
+    let mut words = [0xffff_ffff_ffff_ffff; WIDE_WORDS];
+    for i in 0..12288usize {
+        words[2 * i + i / 64 % 2] = 0xffff_ffff_ffff_ffff ^ (1 << (i % 64));
     }
     words
 }
@@ -61,6 +81,52 @@ pub(crate) fn order_63() -> Tally {
     with_bytes(t, right, best_plan(words, 64, 96, 1, 1), plan)
 }
 
+// The largest day.
+const LARGEST: Verdict = Verdict {
+    number: 0,
+    offset: 0,
+    badges: 128,
+    ticks: 96,
+    contacts: 0,
+};
+
+// A call on the largest day that answers so many bytes, and these.
+fn with_wide(tally: Tally, got: groups::Written, buffer: &[u8], wanted: &[u8]) -> Tally {
+    let len = wanted.len();
+    tally.with_case(writes_groups(got, LARGEST, len) & same(first_bytes(buffer, len), wanted))
+}
+
+// Of 128 badges every order is 127, and the marks are those of wide sets.
+pub(crate) fn order_127() -> Tally {
+    let words = all_of_128();
+    let words: &[u64] = &words;
+    let all = BadgeSet::full(128);
+    let mut buffer = [FILLER; 128];
+    let got = groups::core_numbers(words, 128, 96, all, 0, 95, &mut buffer);
+    let t = with_wide(Tally::none(), got, &buffer, &[127; 128]);
+    let got = groups::report(words, 128, 96, all, Thresholds::PLAIN, &mut buffer);
+    let group: &[u8] =
+        b"RW\x80\x60GW\x7f\x00\x5f\xff\xff\xff\xff\xff\xff\xff\xff\xff\xff\xff\xff\xff\xff\xff\xffED\x01\x00\x00\x00";
+    let t = with_wide(t, got, &buffer, group);
+    let last = BadgeSet::EMPTY.with(127);
+    let got = groups::plan(words, 128, 96, all, last, 1, &mut buffer);
+    let plan: &[u8] =
+        b"PW\x80\x60\x01\x00\x00\x00\x00\x00\x00\x00\x00\x00\x00\x00\x00\x00\x00\x00\x80QW\x7f\x00\x5f\xff\xff\xff\xff\xff\xff\xff\xff\xff\xff\xff\xff\xff\xff\xff\xffED\x01\x00\x00\x00";
+    with_wide(t, got, &buffer, plan)
+}
+
+// T 96 with 128 badges: a log without contacts is read into 24,576 words, which are those of a day then, and written.
+pub(crate) fn largest_day() -> Tally {
+    let mut words = all_of_128();
+    let log: &[u8] = b"BH\x80\x60ED\x00\x00\x00\x00";
+    let read = reads_as(log::read(log, &mut words), LARGEST);
+    let mut buffer = [FILLER; 128];
+    let written = writes_log(log::write(&words, 128, 96, &mut buffer), LARGEST, 10);
+    Tally::none()
+        .with_case(read)
+        .with_case(written & same(first_bytes(&buffer, 10), log))
+}
+
 // A log that read and tidy refuse by a number at an offset, or accept where it is 0.
 fn with_log(tally: Tally, log: &[u8], number: usize, offset: usize) -> Tally {
     let verdict = judge(log);
@@ -70,10 +136,10 @@ fn with_log(tally: Tally, log: &[u8], number: usize, offset: usize) -> Tally {
         .with_case(judged & cases::tidies(log))
 }
 
-// n 65 or T 97: 3.
+// n 129 or T 97: 3.
 pub(crate) fn header() -> Tally {
     let t = with_log(Tally::none(), b"BH\x40\x60ED\x00\x00\x00\x00", 0, 0);
-    let t = with_log(t, b"BH\x41\x60ED\x00\x00\x00\x00", 3, 0);
+    let t = with_log(t, b"BH\x81\x60ED\x00\x00\x00\x00", 3, 0);
     with_log(t, b"BH\x40\x61ED\x00\x00\x00\x00", 3, 0)
 }
 

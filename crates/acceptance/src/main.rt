@@ -61,7 +61,13 @@ fn run(before: Tally, name: &[u8], family: Family, small: Size, larger: Size) ->
 
 fn named(t: Tally) -> Tally {
     let t = print(t, b"64 badges all in contact: order 63", limits::order_63());
-    let t = print(t, b"n 65 or T 97: 3", limits::header());
+    let t = print(
+        t,
+        b"128 badges all in contact: order 127",
+        limits::order_127(),
+    );
+    let t = print(t, b"T 96 with 128 badges", limits::largest_day());
+    let t = print(t, b"n 129 or T 97: 3", limits::header());
     let t = print(t, b"8000 contacts pass", limits::contacts());
     print(t, b"65536 bytes are listed", listings::edge())
 }

@@ -1,10 +1,11 @@
--- The tables hold: every row, in the order of specs/Table, specs/Further, specs/Example and specs/Requests, by computation from the definitions.
+-- The tables hold: every row, in the order of specs/Table, specs/Further, specs/Example, specs/Requests and specs/BiggerWards, by computation from the definitions.
 use mathlib.Core.Path.{refl}
-use Rattle.cases.specs.Rows.{AllHold}
+use Rattle.cases.specs.Rows.{Holds, AllHold}
 use Rattle.cases.specs.Table.{starred}
 use Rattle.cases.specs.Further.{further}
 use Rattle.cases.specs.Example.{example}
 use Rattle.cases.specs.Requests.{requested}
+use Rattle.cases.specs.BiggerWards.{wideNumbers, wideReport, widePlan, wide}
 use Rattle.cases.proofs.Tables.{none, _then_}
 use Rattle.cases.proofs.Computing.{computing}
 
@@ -261,5 +262,43 @@ requested-holds =
     then refl
     then refl
     then refl
+    then refl
+    then none
+
+-- a day of 65 badges takes longer to work out, so three of its rows stand for themselves
+wide-numbers : Holds wideNumbers
+unfolding computing wideNumbers
+wide-numbers = refl
+
+wide-report : Holds wideReport
+unfolding computing wideReport
+wide-report = refl
+
+wide-plan : Holds widePlan
+unfolding computing widePlan
+wide-plan = refl
+
+pub wide-holds : AllHold wide
+unfolding computing
+wide-holds =
+    -- the day of 65 badges
+    refl
+    then refl
+    then refl
+    then wide-numbers
+    then wide-report
+    then wide-plan
+    then refl
+    -- the limits of n
+    then refl
+    then refl
+    then refl
+    -- badge 64 in a day of 64 badges
+    then refl
+    then refl
+    then refl
+    then refl
+    then refl
+    -- the listing
     then refl
     then none

@@ -40,17 +40,18 @@ use Rattle.spans.specs.Encoding.{formOf, encodeCore, encodeCores, reportBytes, 
 use Rattle.spans.specs.Judging.{reviewOf, coreNumberBytes, spanJudged, reportJudged, planJudged}
 use Rattle.groups.specs.Calls.{coreNumbersOf, reportOf, planOf}
 use Rattle.text.specs.Decimal.{decimalIn, decimal}
-use Rattle.text.specs.Listing.{field, headLine, memberList, groupLine, refusalLine, reportLines, listedLines, listedGroups, judgedLines, joined, listing}
+use Rattle.text.specs.Listing.{field, headLine, memberList, groupLine, refusalLine, reportLines, listedLines, listedGroups, dayLines, judgedLines, joined, listing}
 use Rattle.promises.specs.D1.{badges, d1Words}
 use Rattle.promises.specs.Ties.{tiesWords}
 use Rattle.promises.specs.Circles.{apartWords, leavingWords, crossingWords}
 use Rattle.promises.specs.Tracing.{risingWords, fallingWords, atOnceWords, twoSourcesWords}
-use Rattle.cases.specs.RecordBytes.{BH, CT, ED, RH, GR, PH, PT}
+use Rattle.cases.specs.RecordBytes.{BH, CT, ED, RH, GR, PH, PT, RW, GW, PW, QW}
 use Rattle.cases.specs.Rows.{Holds}
 use Rattle.cases.specs.Table.{sevens, d1Log, d1Variant, d1Report, changingLog, changingWords, emptyLog, emptyWords, equalBadges, starred}
 use Rattle.cases.specs.Further.{nestedLog, nestedWords, further}
 use Rattle.cases.specs.Example.{exampleLog, exampleWords, exampleTidy, eastLog, westLog, bothWords, example}
 use Rattle.cases.specs.Requests.{triple, couple, nobody, without2, without3, missing, missingWords, repeating, repeatingWords, fourTicks, cliqueWords, ringWords, aroundWords, requested}
+use Rattle.cases.specs.BiggerWards.{wideLog, wideTidy, wideTick, wideWords, three, badge64, calm64, foreign64, wide}
 
 -- sets and lists
 sets-computing : ℕ
@@ -74,10 +75,10 @@ groups-computing = 0
 
 -- the listing
 text-computing : ℕ
-unfolding groups-computing decimalIn decimal field headLine memberList groupLine refusalLine reportLines listedLines listedGroups judgedLines joined listing
+unfolding groups-computing decimalIn decimal field headLine memberList groupLine refusalLine reportLines listedLines listedGroups dayLines judgedLines joined listing
 text-computing = 0
 
 -- the tables
 unfoldable pub computing : ℕ
-unfolding text-computing badges tiesWords apartWords leavingWords crossingWords risingWords fallingWords atOnceWords twoSourcesWords BH CT ED RH GR PH PT Holds sevens d1Log d1Words d1Variant d1Report changingLog changingWords emptyLog emptyWords equalBadges starred nestedLog nestedWords further exampleLog exampleWords exampleTidy eastLog westLog bothWords example triple couple nobody without2 without3 missing missingWords repeating repeatingWords fourTicks cliqueWords ringWords aroundWords requested
+unfolding text-computing badges tiesWords apartWords leavingWords crossingWords risingWords fallingWords atOnceWords twoSourcesWords BH CT ED RH GR PH PT RW GW PW QW Holds sevens d1Log d1Words d1Variant d1Report changingLog changingWords emptyLog emptyWords equalBadges starred nestedLog nestedWords further exampleLog exampleWords exampleTidy eastLog westLog bothWords example triple couple nobody without2 without3 missing missingWords repeating repeatingWords fourTicks cliqueWords ringWords aroundWords requested wideLog wideTidy wideTick wideWords three badge64 calm64 foreign64 wide
 computing = 0

@@ -30,8 +30,8 @@ further =
     ∷ read (ascii "B") (room 12) (refused 1 0) (room 12)
     ∷ read (ascii "BH") (room 12) (refused 1 0) (room 12)
     ∷ read (ED 0) (room 12) (refused 2 0) (room 12)
-    -- "n 65 or T 97: 3."
-    ∷ read (BH 65 3 ++ ED 0) (room 12) (refused 3 0) (room 12)
+    -- "T 97: 3", and n 129 since request Nine
+    ∷ read (BH 129 3 ++ ED 0) (room 12) (refused 3 0) (room 12)
     ∷ read (BH 4 97 ++ ED 0) (room 12) (refused 3 0) (room 12)
     -- a second BH
     ∷ read (BH 4 3 ++ BH 4 3) (room 12) (refused 2 4) (room 12)

@@ -6,3 +6,4 @@ pub mod Table
 pub mod Further
 pub mod Example
 pub mod Requests
+pub mod BiggerWards

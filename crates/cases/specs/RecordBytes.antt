@@ -34,3 +34,16 @@ PH n T h query = ascii "PH" ++ n ∷ T ∷ h ∷ in8 query
 
 unfoldable pub PT : ℕ → ℕ → ℕ → ℕ → List ℕ
 PT score first last members = ascii "PT" ++ score ∷ first ∷ last ∷ in8 members
+
+-- those above 64 badges: "marks RW, GW, PW and QW replace RH, GR, PH and PT, with 16-byte sets", here by their bytes
+unfoldable pub RW : ℕ → ℕ → List ℕ
+RW n T = ascii "RW" ++ n ∷ T ∷ []
+
+unfoldable pub GW : ℕ → ℕ → ℕ → List ℕ → List ℕ
+GW order first last members = ascii "GW" ++ order ∷ first ∷ last ∷ members
+
+unfoldable pub PW : ℕ → ℕ → ℕ → List ℕ → List ℕ
+PW n T h query = ascii "PW" ++ n ∷ T ∷ h ∷ query
+
+unfoldable pub QW : ℕ → ℕ → ℕ → List ℕ → List ℕ
+QW score first last members = ascii "QW" ++ score ∷ first ∷ last ∷ members

@@ -79,7 +79,7 @@ requested =
     ∷ report 4 3 d1Words (full 4) (leastOf 1 1 4) (sevens 10) (success 10) nobody
     ∷ length-of nobody 10
     -- the ranges do not depend on the day
-    ∷ report 4 3 d1Words (full 4) (leastOf 96 63 64) (sevens 10) (success 10) nobody
+    ∷ report 4 3 d1Words (full 4) (leastOf 96 127 128) (sevens 10) (success 10) nobody
     -- the buffer is measured against what is kept: a byte less than the plain report, and a byte less than this one
     ∷ report 4 3 d1Words (full 4) (leastOf 3 1 2) (sevens 35) (success 23) (couple ++ sevens 12)
     ∷ report 4 3 d1Words (full 4) (leastOf 3 1 2) (sevens 22) (refused 9 0) (sevens 22)
@@ -87,10 +87,10 @@ requested =
     ∷ report 4 3 d1Words (full 4) (leastOf 0 1 2) (sevens 36) (refused 17 0) (sevens 36)
     ∷ report 4 3 d1Words (full 4) (leastOf 97 1 2) (sevens 36) (refused 17 0) (sevens 36)
     ∷ report 4 3 d1Words (full 4) (leastOf 1 0 2) (sevens 36) (refused 17 0) (sevens 36)
-    ∷ report 4 3 d1Words (full 4) (leastOf 1 64 2) (sevens 36) (refused 17 0) (sevens 36)
+    ∷ report 4 3 d1Words (full 4) (leastOf 1 128 2) (sevens 36) (refused 17 0) (sevens 36)
     ∷ report 4 3 d1Words (full 4) (leastOf 1 1 0) (sevens 36) (refused 17 0) (sevens 36)
     ∷ report 4 3 d1Words (full 4) (leastOf 1 1 1) (sevens 36) (refused 17 0) (sevens 36)
-    ∷ report 4 3 d1Words (full 4) (leastOf 1 1 65) (sevens 36) (refused 17 0) (sevens 36)
+    ∷ report 4 3 d1Words (full 4) (leastOf 1 1 129) (sevens 36) (refused 17 0) (sevens 36)
     -- "after 11 and before 9"
     ∷ report 4 3 d1Words (full 4) (leastOf 0 1 2) (sevens 3) (refused 17 0) (sevens 3)
     ∷ report 4 3 (room 12) (full 4) (leastOf 0 1 2) (sevens 36) (refused 11 0) (sevens 36)

@@ -2,39 +2,47 @@
 use mathlib.Core.Path.{_≡_, sym, ap, _∙_}
 use mathlib.Core.Bool.{false}
 use mathlib.Core.List.{List}
-use Prim.Native.Nat.{ℕ, _^_, _≤_, _<_, zero-le}
+use mathlib.Core.Logic.{by-cases}
+use Prim.Native.Nat.{ℕ, _^_, _<_, zero-le}
+use native.Mathlib.Decide.{decLt}
 use native.Mathlib.Omega.{arith}
-use lib.Bits.{xor-lt, xor-zero-l}
-use Rattle.sets.specs.Sets.{Sub, intersection, symmetricDifference, full}
-use Rattle.sets.specs.Words.{wordBits, setAt}
+use lib.Bits.{xor-lt, xor-comm, xor-zero-r}
+use lib.ListN.{getD}
+use Rattle.sets.specs.Sets.{Sub, symmetricDifference, only, full}
+use Rattle.sets.specs.Words.{wordBits, toWords, lowerWords, setAt}
 use Rattle.sets.proofs.Bools.{to-false}
-use Rattle.sets.proofs.Sets.{in-intersection, of-intersection-left, of-intersection-right, in-lt, sub-lt, sub-antisym, none-sub, ext, in-full, full-lt, symmetric-twice}
+use Rattle.sets.proofs.Bits.{bit-xor}
+use Rattle.sets.proofs.Sets.{in-lt, lt-of-members, sub-lt, sub-antisym, none-sub, in-full, full-lt, symmetric-twice}
 use Rattle.days.specs.Days.{neighbours, IsTick, isDay}
 use Rattle.days.proofs.Scan.{day-of}
 use Rattle.checks.specs.Changes.{changeAt, UnionOver}
+use Rattle.checks.specs.Scan.{SameUpper}
+use Rattle.checks.proofs.Toggled.{toggled-other}
 
 -- one tick whose words are not a tick's makes the test of the day fail
 pub day-broken : (n T : ℕ) (ws : List ℕ) (t : ℕ) → t < T → (IsTick n (neighbours n ws t) → ⊥) → isDay n T ws ≡ false
 day-broken n T ws t h f = to-false _ (λ e. f (day-of n T ws e .tick t h))
 
 -- a row is the known one with what changes in it; where nothing does, it is the known one
-row-changed : (tick known : List ℕ) (u : ℕ) → symmetricDifference (changeAt tick known u) (setAt known u) ≡ setAt tick u
-unfolding changeAt
-row-changed tick known u = symmetric-twice (setAt tick u) (setAt known u)
+pub row-changed : (tick known : List ℕ) (u : ℕ) → symmetricDifference (setAt known u) (changeAt tick known u) ≡ setAt tick u
+unfolding changeAt symmetricDifference
+row-changed tick known u = xor-comm (setAt known u) _ ∙ symmetric-twice (setAt tick u) (setAt known u)
 
 pub row-same : (tick known : List ℕ) (u : ℕ) → changeAt tick known u ≡ 0 → setAt known u ≡ setAt tick u
 unfolding symmetricDifference
-row-same tick known u e = sym (xor-zero-l (setAt known u)) ∙ ap (λ (x : ℕ). symmetricDifference x (setAt known u)) (sym e) ∙ row-changed tick known u
+row-same tick known u e = sym (xor-zero-r (setAt known u)) ∙ ap (symmetricDifference (setAt known u)) (sym e) ∙ row-changed tick known u
 
--- what changes in a row of badges below n alone is below n; so where a word holds n badges, the lower word has all of it
-pub change-lower : (tick known : List ℕ) (u : ℕ) {n : ℕ} → n ≤ wordBits → setAt tick u < 2 ^ n → setAt known u < 2 ^ n
-    → intersection (changeAt tick known u) (full wordBits) ≡ changeAt tick known u
-unfolding changeAt symmetricDifference
-change-lower tick known u {n} few h k = ext _ _ (of-intersection-left _ _) (λ v i.
-    in-intersection _ _ v i (in-full wordBits v (omega (arith, in-lt n _ v (xor-lt n (setAt tick u) (setAt known u) h k) i))))
+-- where the upper badges of a row are the same, the lowest word has all that changes in it
+pub change-lowest : (tick known : List ℕ) (u : ℕ) → SameUpper (setAt known u) (setAt tick u) → getD (toWords lowerWords (changeAt tick known u)) 0 0 ≡ changeAt tick known u
+unfolding changeAt symmetricDifference toWords
+change-lowest tick known u same =
+    let l : changeAt tick known u < 2 ^ wordBits =
+    lt-of-members wordBits _ (λ v i. by-cases (decLt v wordBits) (λ k. k) (λ k. omega (arith, i, same .at v (omega arith), bit-xor v (setAt tick u) (setAt known u)))) in
+    omega arith
 
-pub lower-lt : (s : ℕ) {t : ℕ} → t ≡ intersection s (full wordBits) → t < 2 ^ wordBits
-lower-lt s e = rw e (sub-lt wordBits _ (full wordBits) (record { at = of-intersection-right s (full wordBits) }) (full-lt wordBits))
+-- the upper badges stay the same where a lower one changes
+pub same-toggled : {s t u : ℕ} → u < wordBits → SameUpper s t → SameUpper (symmetricDifference s (only u)) t
+same-toggled {s} {t} {u} l h = record { at = λ v m. toggled-other s u v (λ e. omega arith) ∙ h .at v m }
 
 -- s has what changes from the rows known to those of the tick
 module _ (tick known : List ℕ) {n s : ℕ} (changed : UnionOver (changeAt tick known) 0 n s) (d : IsTick n (setAt known)) where
@@ -50,7 +58,7 @@ module _ (tick known : List ℕ) {n s : ℕ} (changed : UnionOver (changeAt tick
   unfolding symmetricDifference
   rows-below h u l =
       let c : changeAt tick known u < 2 ^ n = sub-lt n _ s (row-sub u l) (sub-lt n s (full n) h (full-lt n)) in
-      rw (← row-changed tick known u) (xor-lt n _ _ c (d .within u l))
+      rw (← row-changed tick known u) (xor-lt n _ _ (d .within u l) c)
 
   pub below-rows : IsTick n (setAt tick) → Sub s (full n)
   unfolding changeAt symmetricDifference

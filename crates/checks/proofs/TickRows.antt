@@ -1,20 +1,20 @@
 -- Laws of rows in the words of an array: the sets of one tick over rows, and the union of rows.
 use mathlib.Core.Path.{_≡_, sym, ap, _∙_}
 use mathlib.Core.List.{List}
-use mathlib.Core.Logic.{inl, inr, by-cases}
-use Prim.Native.Nat.{ℕ, zero, suc, _+_, _*_, _≤_, _<_}
-use native.Mathlib.Numerals.{add-one}
+use mathlib.Core.Logic.{_⊎_, inl, inr, by-cases}
+use Prim.Native.Nat.{ℕ, zero, suc, _+_, _*_, _≤_, _<_, zero-le}
 use native.Mathlib.Decide.{decLt}
 use native.Mathlib.Omega.{arith}
 use lib.ListN.{length, getD}
-use Rattle.sets.specs.Sets.{In, union, full}
+use Rattle.sets.specs.Sets.{In, full}
 use Rattle.sets.specs.Members.{capacity, rowWords}
 use Rattle.sets.specs.Tables.{tabulate, piecewise}
 use Rattle.sets.specs.Words.{setWords, Words, places, setAt, wordsOf}
-use Rattle.sets.proofs.Sets.{not-in-none, in-union-left, in-union-right, of-union, in-full, of-full}
+use Rattle.sets.proofs.Sets.{not-in-none, in-union-left, in-union-right, of-union, in-full, of-full, ext}
 use Rattle.sets.proofs.Tables.{tabulate-length, tabulate-at, tabulate-same, piecewise-in, piecewise-out}
 use Rattle.sets.proofs.Places.{set-at-out, set-at-same, set-at-lt, sets-same, words-of-length, set-at-sets, words-fit}
 use Rattle.checks.specs.Arrays.{tickOver, unionOf}
+use Rattle.checks.specs.Changes.{UnionOver}
 
 -- the sets of a tick over rows fit
 over-fits : (tick rows : List ℕ) → Words tick → Words rows → Words (wordsOf (tickOver tick rows))
@@ -79,14 +79,6 @@ over-empty tick rows h = tabulate-same capacity _ _ (λ u l.
     (λ p. piecewise-in (full (places tick)) _ _ u (in-full _ u p))
     (λ p. piecewise-out (full (places tick)) _ _ u (λ i. p (of-full _ u i)) ∙ h u (omega arith) ∙ sym (set-at-out tick u (omega arith))))
 
--- one row more is united
-pub union-more : (rows : List ℕ) (u : ℕ) → union (unionOf u rows) (setAt rows u) ≡ unionOf (u + 1) rows
-unfolding unionOf
-union-more rows u = rw add-one
-
-pub union-all : (rows : List ℕ) {u : ℕ} → u ≡ capacity → unionOf u rows ≡ unionOf capacity rows
-union-all rows e = ap (λ (x : ℕ). unionOf x rows) e
-
 -- s has every badge that is in some row of a badge that a set can hold, and no other
 pub record Unites (rows : List ℕ) (s : ℕ) : Type 0 where
   pub has : (u v : ℕ) → u < capacity → In (setAt rows u) v → In s v
@@ -101,10 +93,20 @@ union-has rows (suc m) u v l i =
     (λ k. in-union-left (unionOf m rows) (setAt rows m) v (union-has rows m u v k i))
     (λ k. let e : u ≡ m = omega arith in in-union-right (unionOf m rows) (setAt rows m) v (rw e at i))
 
-union-of : (rows : List ℕ) (m v : ℕ) → In (unionOf m rows) v → (u : ℕ) × In (setAt rows u) v
+union-of : (rows : List ℕ) (m v : ℕ) → In (unionOf m rows) v → (u : ℕ) × (u < m) × In (setAt rows u) v
 unfolding unionOf
 union-of rows zero v i = absurd (not-in-none v i)
-union-of rows (suc m) v i = elim (of-union (unionOf m rows) (setAt rows m) v i) [ inl j ↦ union-of rows m v j | inr j ↦ (m, j) ]
+union-of rows (suc m) v i = go (union-of rows m v) (of-union (unionOf m rows) (setAt rows m) v i)
+  where
+    go : (In (unionOf m rows) v → (u : ℕ) × (u < m) × In (setAt rows u) v) → In (unionOf m rows) v ⊎ In (setAt rows m) v → (u : ℕ) × (u < suc m) × In (setAt rows u) v
+    go ih (inl j) = let x = ih j in (x .0, omega (arith, x .1), x .2)
+    go ih (inr j) = (m, omega arith, j)
 
 pub unites : (rows : List ℕ) {s : ℕ} → s ≡ unionOf capacity rows → Unites rows s
-unites rows e = rw e (record { has = union-has rows capacity; of = union-of rows capacity })
+unites rows e = rw e (record { has = union-has rows capacity; of = λ v i. let x = union-of rows capacity v i in (x .0, x .2) })
+
+-- and every union over all rows is it
+pub union-over : (rows : List ℕ) {m s : ℕ} → m ≡ capacity → UnionOver (setAt rows) 0 m s → s ≡ unionOf capacity rows
+union-over rows {s = s} e h = rw e at (ext s _
+    (λ v i. let x = h .of v i in union-has rows _ (x .0) v (x .2) (x .3))
+    (λ v i. let x = union-of rows _ v i in h .has (x .0) v zero-le (x .1) (x .2)))

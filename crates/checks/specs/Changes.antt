@@ -1,4 +1,4 @@
--- What changes from one tick to another. (Cited by private functions alone.)
+-- What changes from one tick to another, and unions over a range of rows. (Cited by private functions alone.)
 use mathlib.Core.List.{List}
 use Prim.Native.Nat.{ℕ, _≤_, _<_}
 use Rattle.sets.specs.Sets.{In, symmetricDifference}

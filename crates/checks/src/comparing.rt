@@ -12,7 +12,8 @@ pub(crate) fn change_at(tick: &[u64], before: &[u64], u: usize) -> BadgeSet
     requires { ⌜ (u < places (now tick)) × (u < places (now before)) ⌝ }
     ensures { λ r. ⌜ members r ≡ changeAt (now (tick .entry)) (now (before .entry)) u ⌝ }
 {
-    BadgeSet::from_word(tick[u * SET_WORDS] ^ before[u * SET_WORDS])
+    let at = u * SET_WORDS;
+    BadgeSet::from_words(tick[at] ^ before[at], tick[at + 1] ^ before[at + 1])
 }
 
 // What changes in two rows, in four and in eight, from the row of u on.
@@ -40,13 +41,17 @@ fn eight_changes(tick: &[u64], before: &[u64], u: usize) -> BadgeSet
     first.union(four_changes(tick, before, u + 4))
 }
 
-// What changes in so many times eight rows, eight in a turn: where a set has several words, that takes fewer instructions.
+// What changes in so many times eight rows, eight in a turn. The first eight come before the loop: rows in an array are compared from its start on then,
+// which lets the compiler lay it out so that both words of a set are read at once.
 fn changes_by_eight(tick: &[u64], before: &[u64], eights: usize) -> BadgeSet
     requires { ⌜ (8 * eights ≤ places (now tick)) × (8 * eights ≤ places (now before)) ⌝ }
     ensures { λ r. ⌜ UnionOver (changeAt (now (tick .entry)) (now (before .entry))) 0 (8 * eights) (members r) ⌝ }
 {
-    let mut all = BadgeSet::EMPTY;
-    for i in 0..eights {
+    if eights == 0 {
+        return BadgeSet::EMPTY;
+    }
+    let mut all = eight_changes(tick, before, 0);
+    for i in 1..eights {
         let next = all.union(eight_changes(tick, before, 8 * i));
         all = next;
     }

@@ -1,14 +1,16 @@
 // Rows in an array, a set for each badge that a set can hold: the words of one tick copied there, and the badges that are in them.
 ghost use mathlib.Core.Path.{_≡_};
-ghost use Prim.Native.Nat.{min};
+ghost use Prim.Native.Nat.{_+_, _<_, min};
 ghost use lib.ListN.{length};
 ghost use Rattle.sets.specs.Members.{capacity, rowWords, members};
-ghost use Rattle.sets.specs.Words.{places, wordsOf};
+ghost use Rattle.sets.specs.Words.{places, setAt, wordsOf};
 ghost use Rattle.checks.specs.Arrays.{tickOver, unionOf};
+ghost use Rattle.checks.specs.Changes.{UnionOver};
 use sets::BadgeSet;
 use sets::CAPACITY;
 use sets::ROW_WORDS;
 use sets::SET_WORDS;
+use sets::set_at;
 
 // The smaller of a tick's number of sets and the number of rows.
 fn row_count(tick: &[u64]) -> usize
@@ -36,13 +38,31 @@ pub fn copy_tick(rows: &mut [u64; ROW_WORDS], tick: &[u64])
     copy_words(&mut rows[..], tick);
 }
 
-// Every badge that is in some row. Rows are read by their words: a test of each place would take longer than the union.
+// The badges that are in one of two rows.
+fn two_rows(rows: &[u64], u: usize) -> BadgeSet
+    requires { ⌜ u < capacity ⌝ }
+    ensures { λ r. ⌜ UnionOver (setAt (now (rows .entry))) u (u + 2) (members r) ⌝ }
+{
+    set_at(rows, u).union(set_at(rows, u + 1))
+}
+
+// Every badge that is in some row, eight rows in a turn: in so few turns of known places, the compiler leaves no test of a place.
+fn unite(rows: &[u64]) -> BadgeSet
+    ensures { λ r. ⌜ members r ≡ unionOf capacity (now (rows .entry)) ⌝ }
+{
+    let mut all = BadgeSet::EMPTY;
+    for i in 0..CAPACITY / 8 {
+        let first = two_rows(rows, 8 * i).union(two_rows(rows, 8 * i + 2));
+        let second = two_rows(rows, 8 * i + 4).union(two_rows(rows, 8 * i + 6));
+        let next = all.union(first.union(second));
+        all = next;
+    }
+    all
+}
+
+// Every badge that is in some row, of rows in an array.
 pub fn united(rows: &[u64; ROW_WORDS]) -> BadgeSet
     ensures { λ r. ⌜ members r ≡ unionOf capacity (now (rows .entry)) ⌝ }
 {
-    let mut all: u64 = 0;
-    for u in 0..CAPACITY {
-        all = all | rows[u * SET_WORDS];
-    }
-    BadgeSet::from_word(all)
+    unite(&rows[..])
 }

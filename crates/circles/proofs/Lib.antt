@@ -4,4 +4,5 @@ pub mod Growing
 pub mod CircleLists
 pub mod CohesiveCircles
 pub mod Walking
+pub mod WordWalks
 pub mod Counting

@@ -1,12 +1,17 @@
 // Peeling: badges of low degree are dropped until none is left to drop.
 ghost use mathlib.Core.Path.{_≡_};
-ghost use Rattle.sets.specs.Members.{members};
-ghost use Rattle.sets.specs.Words.{wordsOf};
+ghost use Prim.Native.Nat.{_<_};
+ghost use lib.ListN.{length};
+ghost use Rattle.sets.specs.Members.{members, capacity, rowWords};
+ghost use Rattle.sets.specs.Words.{setWords, wordsOf};
+ghost use Rattle.cores.specs.Graphs.{degree};
 ghost use Rattle.cores.specs.Rows.{graph, keptRows, IsPeeled};
-ghost use Rattle.cores.specs.Passes.{LookedAt, Passed, IsCoreKept};
+ghost use Rattle.cores.specs.Passes.{LookedAt, WordSeen, Passed, IsCoreKept};
 use sets::BadgeSet;
 use sets::CAPACITY;
 use sets::ROW_WORDS;
+use sets::SET_WORDS;
+use sets::WORD_BITS;
 use sets::put_set;
 use sets::set_at;
 
@@ -16,12 +21,27 @@ pub(crate) struct Kept {
     pub(crate) least: usize,
 }
 
+// The degree of badge u in a set: how many members are in its row. The row's upper word is read only where the set has badges there.
+fn degree_in(rows: &[u64], u: usize, s: BadgeSet) -> usize
+    requires { ⌜ (length (now rows) ≡ rowWords) × (u < capacity) ⌝ }
+    ensures { λ r. ⌜ r ≡ degree (graph (now (rows .entry))) (members s) u ⌝ }
+{
+    let at = u * SET_WORDS;
+    let lower = u64::count_ones(rows[at] & s.word(0)) as usize;
+    let upper = s.word(1);
+    if upper == 0 {
+        return lower;
+    }
+    lower + u64::count_ones(rows[at + 1] & upper) as usize
+}
+
 // Looks at badge u: it is dropped if it has fewer neighbours in what is left than the order asks; else the least degree takes its degree in.
-fn look_at(kept: Kept, row: BadgeSet, order: usize, u: usize) -> Kept
-    ensures { λ r. ⌜ LookedAt (members row) order u (members (kept .members)) (kept .least) (members (r .members)) (r .least) ⌝ }
+fn look_at(rows: &[u64; ROW_WORDS], kept: Kept, order: usize, u: usize) -> Kept
+    requires { ⌜ u < capacity ⌝ }
+    ensures { λ r. ⌜ LookedAt (graph (now (rows .entry))) order u (members (kept .members)) (kept .least) (members (r .members)) (r .least) ⌝ }
 {
     let s = kept.members;
-    let degree = row.intersection(s).size();
+    let degree = degree_in(rows, u, s);
     if degree < order {
         return Kept {
             members: s.without(u),
@@ -37,7 +57,23 @@ fn look_at(kept: Kept, row: BadgeSet, order: usize, u: usize) -> Kept
     kept
 }
 
-// One pass over the members of a set: each that has too few neighbours in what is left then is dropped.
+// Looks at the members of a set that are in its word i, the smallest first: each that has too few neighbours in what is left then is dropped.
+fn look_at_word(rows: &[u64; ROW_WORDS], start: Kept, s: BadgeSet, i: usize, order: usize) -> Kept
+    requires { ⌜ i < setWords ⌝ }
+    ensures { λ r. ⌜ WordSeen (graph (now (rows .entry))) order (members s) i (members (start .members)) (start .least) (members (r .members)) (r .least) ⌝ }
+{
+    let mut kept = start;
+    let mut unseen = s.word(i);
+    while unseen != 0 {
+        let u = i * WORD_BITS + u64::trailing_zeros(unseen) as usize;
+        let next = look_at(rows, kept, order, u);
+        kept = next;
+        unseen = unseen & (unseen - 1);
+    }
+    kept
+}
+
+// One pass over the members of a set, word by word: each that has too few neighbours in what is left then is dropped.
 fn pass(rows: &[u64; ROW_WORDS], s: BadgeSet, order: usize) -> Kept
     ensures { λ r. ⌜ Passed (graph (now (rows .entry))) order (members s) (members (r .members)) (r .least) ⌝ }
 {
@@ -45,13 +81,11 @@ fn pass(rows: &[u64; ROW_WORDS], s: BadgeSet, order: usize) -> Kept
         members: s,
         least: CAPACITY,
     };
-    let mut unseen = s;
-    while !unseen.is_empty() {
-        let u = unseen.smallest();
-        let next = look_at(kept, set_at(rows, u), order, u);
+    let mut i: usize = 0;
+    while i < SET_WORDS {
+        let next = look_at_word(rows, kept, s, i, order);
         kept = next;
-        let rest = unseen.rest();
-        unseen = rest;
+        i += 1;
     }
     kept
 }

@@ -1,5 +1,5 @@
 -- Laws of the check of words that every call on words begins with: its refusals, in the order of judging, when it passes, and that
--- words after the first n×T change nothing.
+-- words after the first 2×n×T change nothing.
 use mathlib.Core.Path.{_≡_, sym, _∙_}
 use mathlib.Core.Bool.{Bool, true, false}
 use mathlib.Core.List.{List, _++_}
@@ -22,7 +22,7 @@ pub check-limits : (n T : ℕ) (ws : List ℕ) → withinLimits n T ≡ false �
 unfolding checkOf refuseIf isnt
 check-limits n T ws e = rw e
 
--- fewer than n×T words: 8
+-- fewer than 2×n×T words: 8
 pub check-few : (n T : ℕ) (ws : List ℕ) → withinLimits n T ≡ true → length ws < wordsFor n T → checkOf n T ws ≡ refused 8 0
 unfolding checkOf refuseIf isnt
 check-few n T ws e h = rw (e, lt-ltb _ _ h)
@@ -46,7 +46,7 @@ check-passed n T ws e =
     let day = refuse-passed _ _ _ _ (enough .1) in
     record { limits = isnt-false _ (limits .0); enough = ltb-false _ _ (enough .0); day = day-of n T ws (isnt-false _ (day .0)) }
 
--- words after the first n×T change nothing
+-- words after the first 2×n×T change nothing
 pub check-append : (n T : ℕ) (ws rest : List ℕ) → length ws ≡ wordsFor n T → checkOf n T (ws ++ rest) ≡ checkOf n T ws
 unfolding checkOf
 check-append n T ws rest e =

@@ -1,4 +1,5 @@
--- The day in words: "word t×n+u has bit v set exactly when u and v are in contact in tick t", or rather the set at that place has v.
+-- The day in words: "word t×n+u has bit v set exactly when u and v are in contact in tick t", or rather the set at that place, "word 2(t×n+u) and the next",
+-- has v.
 -- (A day is a temporal graph over T timestamps; the words of one tick are a snapshot's adjacency rows.)
 use mathlib.Core.Bool.{Bool, true}
 use mathlib.Core.List.{List, [], _++_}
@@ -48,7 +49,7 @@ pub record IsTick (n : ℕ) (row : ℕ → ℕ) : Type 0 where
 pub record IsDay (n T : ℕ) (ws : List ℕ) : Type 0 where
   pub tick : (t : ℕ) → t < T → IsTick n (neighbours n ws t)
 
--- lent words of which the first n×T are a day
+-- lent words of which the first 2×n×T are a day
 pub record LentDay (n T : ℕ) (ws : List ℕ) : Type 0 where
   pub limits : withinLimits n T ≡ true
   pub enough : wordsFor n T ≤ length ws

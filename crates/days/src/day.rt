@@ -103,7 +103,7 @@ fn mark_record(words: &mut [u64], n: usize, record: Record)
     }
 }
 
-// Sets the first n×T words to the day of an accepted log.
+// Sets the first 2×n×T words to the day of an accepted log.
 pub(crate) fn fill(log: &[u8], badges: usize, ticks: usize, words: &mut [u64])
     requires { ⌜ Accepts (now log) badges ticks × (wordsFor badges ticks ≤ length (now words)) ⌝ }
     ensures { λ _. ⌜ ((rs : List Record) → judge (now (log .entry)) ≡ success rs → now (words .exit) ≡ dayOf rs ++ drop (wordsFor badges ticks) (now (words .entry))) ⌝ }

@@ -2,6 +2,7 @@
 
 -- the rows of spans, and the loop that narrows them
 pub mod TickRows
+pub mod NarrowedSides
 pub mod Narrowing
 -- what is found from rows: core numbers, and the loop over the spans with one first tick
 pub mod RowCores

@@ -2,17 +2,15 @@
 use mathlib.Core.Path.{_≡_, refl, sym, ap, _∙_}
 use mathlib.Core.List.{List}
 use mathlib.Core.Logic.{by-cases}
-use Prim.Native.Nat.{ℕ, suc, _+_, _-_, _*_, _≤_, _<_, min}
+use Prim.Native.Nat.{ℕ, suc, _+_, _-_, _*_, _≤_, _<_}
 use native.Mathlib.Nat.{le-refl, suc-mul, mul-assoc}
 use native.Mathlib.Numerals.{add-one}
 use native.Mathlib.Decide.{decLt}
 use native.Mathlib.Omega.{arith}
-use lib.ListN.{length, getD, take, drop, replicate, length-drop, length-replicate, getD-replicate}
+use lib.ListN.{length, take, drop, replicate, length-drop, length-replicate, getD-replicate}
 use lib.Seq.{length-take-le}
-use Rattle.sets.specs.Sets.{intersection}
 use Rattle.sets.specs.Members.{capacity, rowWords}
-use Rattle.sets.specs.Words.{setWords, Words, setAt, wordsOf}
-use Rattle.sets.proofs.Tables.{replaced, replaced-done}
+use Rattle.sets.specs.Words.{setWords, Words, wordsOf}
 use Rattle.sets.proofs.Words.{words-take, words-drop}
 use Rattle.sets.proofs.Places.{set-at-out, set-at-sets, words-zero}
 use Rattle.records.proofs.WithinLimits.{limits-of}
@@ -22,28 +20,7 @@ use Rattle.checks.proofs.TickRows.{over-empty}
 use Rattle.spans.specs.Spans.{SpanOfDay, spanWords}
 use Rattle.spans.proofs.SpanRows.{span-words-length, span-set-none}
 use Rattle.groups.specs.Steps.{tickOf, NextTick, Narrows, RowsTo, EmptyFrom}
-use Rattle.groups.proofs.TickRows.{tick-span, narrowed, narrow-span}
-
--- Words of rows that are narrowed in place, the first i of them.
-abbrev pub narrowing : List ℕ → List ℕ → ℕ → List ℕ
-narrowing rows tick = replaced rowWords (λ k word. intersection word (getD tick k 0)) rows
-
-pub narrow-done : (rows tick : List ℕ) {out : List ℕ} {u : ℕ} → u ≡ min rowWords (length tick) → out ≡ narrowing rows tick u → out ≡ narrowed rows tick
-unfolding narrowed
-narrow-done rows tick e o = replaced-done rowWords _ _ (length tick) e o
-
--- what a step is given: the words of all rows, and no more words of the tick
-pub step-rows : {rows tick : List ℕ} → NextTick rows tick → length rows ≡ rowWords
-step-rows s = ap length (s .span) ∙ span-words-length (s .badges) (s .words) (s .first) (s .last)
-
-pub step-words : {rows tick : List ℕ} → NextTick rows tick → length tick ≤ rowWords
-step-words s = omega (arith, s .whole, s .few)
-
--- narrowed, the rows are those of the longer span
-pub step-longer : {rows tick out : List ℕ} → out ≡ narrowed rows tick → Narrows rows tick out
-step-longer o = record {
-  span = λ s. o ∙ rw (s .span, s .next) (narrow-span (s .badges) (s .words) (s .first) (s .last) (s .few) (s .rising) (rw (s .next) at (s .whole)) (rw (s .next) at (s .fit)));
-}
+use Rattle.groups.proofs.TickRows.{tick-span}
 
 -- the words of a tick of a span are among the words, those of t * n sets before them, and those of n sets from there are the tick's
 pub tick-inside : {n T : ℕ} {ws : List ℕ} {first last : ℕ} (t : ℕ) → SpanOfDay n T ws first last → t ≤ last → t * (n * setWords) + n * setWords ≤ length ws

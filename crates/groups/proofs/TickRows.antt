@@ -3,24 +3,25 @@
 use mathlib.Core.Path.{_≡_, sym, ap₂, _∙_}
 use mathlib.Core.List.{List}
 use mathlib.Core.Logic.{by-cases}
-use Prim.Native.Nat.{ℕ, suc, _+_, _*_, _≤_, _<_}
-use native.Mathlib.Nat.{le-refl}
+use Prim.Native.Nat.{ℕ, suc, _+_, _*_, _/_, _%_, _^_, _≤_, _<_}
+use native.Mathlib.Nat.{le-refl, lt-of-lt-of-le}
 use native.Mathlib.Decide.{decLt, decLe}
 use native.Mathlib.Omega.{arith}
 use lib.Bits.{and-le-l}
 use lib.ListN.{length, getD, drop, length-take}
+use lib.Pow.{pow-mono}
 use Rattle.sets.specs.Sets.{In, full, intersection}
 use Rattle.sets.specs.Members.{capacity, rowWords}
-use Rattle.sets.specs.Tables.{tabulate, piecewise}
-use Rattle.sets.specs.Words.{setWords, Words, setAt}
+use Rattle.sets.specs.Tables.{tabulate}
+use Rattle.sets.specs.Words.{wordBits, setWords, Words, places, setAt}
 use Rattle.sets.proofs.Sets.{in-intersection, of-intersection-left, of-intersection-right, in-lt, in-full, of-full, ext}
-use Rattle.sets.proofs.Tables.{tabulate-length, tabulate-at, tabulate-same, piecewise-in, piecewise-out}
-use Rattle.sets.proofs.Places.{set-at-out, set-at-same, sets-same}
+use Rattle.sets.proofs.Tables.{tabulate-same, piecewise-in, piecewise-out}
+use Rattle.sets.proofs.Places.{set-at-out, set-at-same, sets-same, word-none-above}
 use Rattle.sets.proofs.EachWord.{set-at-intersection}
 use Rattle.days.specs.Days.{neighbours, IsDay}
 use Rattle.days.proofs.Days.{neighbours-part}
 use Rattle.spans.specs.Spans.{spanNeighbours, spanRows, spanWords}
-use Rattle.spans.proofs.SpanRows.{in-span, of-span, span-words-length, span-set, span-set-none, span-words-fit}
+use Rattle.spans.proofs.SpanRows.{in-span, of-span, span-words-length, span-set, span-set-none, span-words-fit, span-lt}
 use Rattle.groups.specs.Steps.{tickOf}
 
 -- rows that are those of a span below n and empty from n up are the rows of the span
@@ -70,55 +71,52 @@ longer n ws first last u h = ext _ _ there back
         let s = of-span n ws first (suc last) u v i in
         in-intersection _ _ v (in-span n ws first last u v (s .0) (λ t p q. s .1 t p (omega arith))) (s .1 (suc last) (omega arith) (le-refl _))
 
--- words of rows of which the first are intersected with those of a tick
-unfoldable pub narrowed : List ℕ → List ℕ → List ℕ
-narrowed rows tick = tabulate rowWords (piecewise (full (length tick)) (λ i. intersection (getD rows i 0) (getD tick i 0)) (λ i. getD rows i 0))
-
-module _ (rows tick : List ℕ) where
-  narrowed-length : length (narrowed rows tick) ≡ rowWords
-  unfolding narrowed
-  narrowed-length = tabulate-length rowWords _
-
-  narrowed-in : (i : ℕ) → i < rowWords → i < length tick → getD (narrowed rows tick) i 0 ≡ intersection (getD rows i 0) (getD tick i 0)
-  unfolding narrowed
-  narrowed-in i k l = tabulate-at rowWords _ i k ∙ piecewise-in (full (length tick)) _ _ i (in-full _ i l)
-
-  narrowed-out : (i : ℕ) → i < rowWords → (i < length tick → ⊥) → getD (narrowed rows tick) i 0 ≡ getD rows i 0
-  unfolding narrowed
-  narrowed-out i k l = tabulate-at rowWords _ i k ∙ piecewise-out (full (length tick)) _ _ i (λ j. l (of-full _ i j))
-
-  narrowed-fit : length rows ≡ rowWords → Words rows → Words (narrowed rows tick)
-  unfolding intersection
-  narrowed-fit e w = record {
-    at = λ i l.
-        let k : i < rowWords = rw narrowed-length at l in
-        let x = w .at i (omega arith) in
-        by-cases (decLt i (length tick)) (λ p. rw (narrowed-in i k p) (omega (arith, and-le-l (getD rows i 0) (getD tick i 0)))) (λ p. rw (narrowed-out i k p) x);
-  }
-
--- narrowed by the next tick, the rows of a span are those of the span that is longer by this tick
-module _ (n : ℕ) (ws : List ℕ) (first last : ℕ) (w : n ≤ capacity) (h : first ≤ last) (e : length (tickOf n ws (suc last)) ≡ n * setWords) (f : Words (tickOf n ws (suc last))) where
+-- Narrowed by the next tick, the rows of a span are those of the span that is longer by this tick: words that are intersected with the tick's, as many as it
+-- has, and otherwise stay.
+module _ (n : ℕ) (ws : List ℕ) (first last : ℕ) (w : n ≤ capacity) (h : first ≤ last) (e : length (tickOf n ws (suc last)) ≡ n * setWords) (f : Words (tickOf n ws (suc last))) (out : List ℕ) where
   abbrev rows : List ℕ
   rows = spanWords n ws first last
 
   abbrev tick : List ℕ
   tick = tickOf n ws (suc last)
 
-  narrow-at : (u : ℕ) → u < capacity → setAt (narrowed rows tick) u ≡ setAt (spanWords n ws first (suc last)) u
-  narrow-at u l = by-cases (decLt u n)
-      (λ p.
-      set-at-intersection (narrowed rows tick) rows tick u u u
-      (rw (narrowed-length rows tick) (omega arith)) (rw (span-words-length n ws first last) (omega arith)) (omega arith) (span-words-fit n ws first last w) f
-      (λ x m. narrowed-in rows tick (u * setWords + x) (omega arith) (omega arith))
-      ∙ ap₂ intersection (span-set n ws first last u w p) (tick-at n ws (suc last) u p)
-      ∙ longer n ws first last u h
-      ∙ sym (span-set n ws first (suc last) u w p))
-      (λ p.
-      set-at-same (narrowed rows tick) rows u u (rw (narrowed-length rows tick) (omega arith)) (rw (span-words-length n ws first last) (omega arith))
-      (λ x m. narrowed-out rows tick (u * setWords + x) (omega arith) (λ q. p (omega arith)))
-      ∙ span-set-none n ws first last u (omega arith)
-      ∙ sym (span-set-none n ws first (suc last) u (omega arith)))
+  module _ (size : length out ≡ rowWords)
+      (each : (u x : ℕ) → u < n → x < setWords → getD out (u * setWords + x) 0 ≡ intersection (getD rows (u * setWords + x) 0) (getD tick (u * setWords + x) 0))
+      (others : (i : ℕ) → n * setWords ≤ i → getD out i 0 ≡ getD rows i 0) where
+    narrow-at : (u : ℕ) → u < capacity → setAt out u ≡ setAt (spanWords n ws first (suc last)) u
+    narrow-at u l = by-cases (decLt u n)
+        (λ p.
+        set-at-intersection out rows tick u u u
+        (rw size (omega arith)) (rw (span-words-length n ws first last) (omega arith)) (omega arith) (span-words-fit n ws first last w) f (λ x m. each u x p m)
+        ∙ ap₂ intersection (span-set n ws first last u w p) (tick-at n ws (suc last) u p)
+        ∙ longer n ws first last u h
+        ∙ sym (span-set n ws first (suc last) u w p))
+        (λ p.
+        set-at-same out rows u u (rw size (omega arith)) (rw (span-words-length n ws first last) (omega arith)) (λ x m. others (u * setWords + x) (omega arith))
+        ∙ span-set-none n ws first last u (omega arith)
+        ∙ sym (span-set-none n ws first (suc last) u (omega arith)))
 
-  pub narrow-span : narrowed rows tick ≡ spanWords n ws first (suc last)
-  narrow-span = sets-same capacity _ _ (narrowed-length rows tick) (span-words-length n ws first (suc last))
-      (narrowed-fit rows tick (span-words-length n ws first last) (span-words-fit n ws first last w)) (span-words-fit n ws first (suc last) w) narrow-at
+    narrow-fit : Words out
+    unfolding intersection
+    narrow-fit = record {
+      at = λ i l.
+          let k : i < length rows = rw (span-words-length n ws first last) (omega arith) in
+          let x = span-words-fit n ws first last w .at i k in
+          let d : i / setWords * setWords + i % setWords ≡ i = omega arith in
+          by-cases (decLt i (n * setWords))
+          (λ p.
+          let y : getD out i 0 ≡ intersection (getD rows i 0) (getD tick i 0) = rw d at (each (i / setWords) (i % setWords) (omega arith) (omega arith)) in
+          rw y (omega (arith, and-le-l (getD rows i 0) (getD tick i 0))))
+          (λ p. rw (others i (omega arith)) x);
+    }
+
+    pub narrow-span : out ≡ spanWords n ws first (suc last)
+    narrow-span = sets-same capacity _ _ size (span-words-length n ws first (suc last)) narrow-fit (span-words-fit n ws first (suc last) w) narrow-at
+
+-- rows of up to so many badges as a word has bits have nobody in their upper words
+pub upper-none : (n : ℕ) (ws : List ℕ) (first last u : ℕ) → n ≤ wordBits → u < n → getD (spanWords n ws first last) (u * setWords + 1) 0 ≡ 0
+upper-none n ws first last u few l =
+    let w : n ≤ capacity = omega arith in
+    let inside : u < places (spanWords n ws first last) = rw (span-words-length n ws first last) (omega arith) in
+    let small : spanNeighbours n ws first last u < 2 ^ wordBits = lt-of-lt-of-le (span-lt n ws first last u) (pow-mono few) in
+    word-none-above (spanWords n ws first last) u 1 (span-words-fit n ws first last w) inside (omega arith) (rw (span-set n ws first last u w l) small)

@@ -41,14 +41,13 @@ fn word_bytes(word: u64) -> [u8; 8]
     ]
 }
 
-// The bytes of a record with a mark and a set of 16 bytes, of which the upper 8 say 0 since a set has one word. They start with the bytes of the same record
-// with a shorter set.
+// The bytes of a record with a mark and a set of 16 bytes, those of its two words. They start with the bytes of the same record with a shorter set.
 fn record_bytes(mark: [u8; 2], shown: Shown) -> [u8; 21]
     ensures { λ r. ⌜ r ≡ encodeCore 16 mark (coreOf shown) ⌝ }
 {
     let set = shown.members;
-    let lower = word_bytes(set.to_word());
-    let upper = word_bytes(0);
+    let lower = word_bytes(set.word(0));
+    let upper = word_bytes(set.word(1));
     [
         mark[0],
         mark[1],

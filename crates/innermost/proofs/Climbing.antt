@@ -12,7 +12,7 @@ use Rattle.sets.specs.Bools.{_and_}
 use Rattle.sets.specs.Sets.{In, Sub, isSub}
 use Rattle.sets.specs.Members.{capacity}
 use Rattle.sets.proofs.Bools.{clash, and-in, and-left}
-use Rattle.sets.proofs.Sets.{sub-lt, sub-refl, sub-trans, sub-pos, sub-antisym, is-sub-in}
+use Rattle.sets.proofs.Sets.{sub-refl, sub-trans, sub-pos, sub-antisym, is-sub-in}
 use Rattle.sets.proofs.Size.{size-le}
 use Rattle.planes.specs.Lanes.{half}
 use Rattle.cores.specs.Cores.{core}
@@ -71,12 +71,12 @@ climbing-start {base = base} query l c = record {
 
 -- Where no member of the base has an in-degree below an order, the base is the core of this order: the first to be tried is the next.
 pub climbing-jump : {rows : ℕ → ℕ} {base query above stop order : ℕ} {a : ℕ → ℕ} → ((v : ℕ) → In base v → order ≤ inDegree rows base v) → above < order → order ≤ stop
-    → (ltb 0 base and isSub query base) ≡ true → Counting rows base (order + 1) a → Climbing rows base query above stop order base base a
+    → (ltb 0 base and isSub query base) ≡ true → (order < stop → Counting rows base (order + 1) a) → Climbing rows base query above stop order base base a
 unfolding contains
 climbing-jump {rows} {base} {order = order} h a b t c = record {
   within = sub-refl base;
   same = λ j m. refl;
-  counting = λ m. c;
+  counting = c;
   climbed = record { low = le-of-lt a; high = b; state = inr (a, rw (← whole) t, whole) };
 }
   where
@@ -111,11 +111,11 @@ module _ {rows : ℕ → ℕ} {base query above stop order found left : ℕ} {a 
     next-within = rw next-core (core-sub (transposed rows base) base (order + 1))
 
     -- if it passes, it is the highest core so far
-    pub climbing-more : {c : ℕ → ℕ} → base < 2 ^ capacity → stop ≤ half → Raised (λ v. 1) b c → Climbing rows base query above stop (order + 1) next next c
-    climbing-more w f p = record {
+    pub climbing-more : {c : ℕ → ℕ} → stop ≤ half → Raised next (λ v. 1) b c → Climbing rows base query above stop (order + 1) next next c
+    climbing-more f p = record {
       within = next-within;
       same = λ j m. core-transposed rows base next j next-within ∙ ap (λ (x : ℕ). core (transposed rows base) x j) next-core ∙ core-again (transposed rows base) base (order + 1) j (omega arith);
-      counting = λ m. counting-raised (sub-lt capacity next base next-within w) (rw e at (s .counting some-left)) (omega arith) p;
+      counting = λ m. counting-raised (rw e at (s .counting some-left)) (omega arith) p;
       climbed = climb-more (h .climbed) l (sym climbing-test ∙ t) next-core;
     }
 

@@ -22,12 +22,16 @@ pub record TakesRow (rows : ℕ → ℕ) (s row rest : ℕ) : Type 0 where
 pub record AddsTo (x : ℕ → ℕ) (ps qs : List ℕ) : Type 0 where
   pub sum : (v : ℕ) → lane ps v + x v < 2 ^ length ps → lane qs v ≡ lane ps v + x v
 
+-- the same for the badges of a side: lane v is that of badge v of the side's word of a set
+pub record AddsSide (x : ℕ → ℕ) (side : ℕ) (ps qs : List ℕ) : Type 0 where
+  pub each : (v : ℕ) → v < wordBits → lane ps v + x (side * wordBits + v) < 2 * half → lane qs v ≡ lane ps v + x (side * wordBits + v)
+
 -- the rows of some members of s are added, those of the others not yet
 pub record AddsSome (rows : ℕ → ℕ) (s unseen : ℕ) (ps qs : List ℕ) : Type 0 where
   pub falls : 0 < s → size unseen < size s
   pub each : (v : ℕ) → lane ps v + inDegree rows s v < 2 * half → lane qs v + inDegree rows unseen v ≡ lane ps v + inDegree rows s v
 
 -- In each lane of a side, the order k, less the in-degree in s, above the largest number that is below half: half or more exactly where the in-degree is
--- below k. Lane v is that of badge v of the side's word of a set.
+-- below k.
 pub record CountingSide (rows : ℕ → ℕ) (s k side : ℕ) (ps : List ℕ) : Type 0 where
   pub each : (v : ℕ) → v < wordBits → lane ps v + inDegree rows s (side * wordBits + v) + 1 ≡ k + half

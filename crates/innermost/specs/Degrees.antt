@@ -1,6 +1,6 @@
 -- The numbers that stand for the in-degrees of all badges, each in a lane of the planes of its word, and what the functions over them promise.
 use mathlib.Core.Path.{_≡_}
-use Prim.Native.Nat.{ℕ, _+_, _*_, _/_, _%_, _≤_, _<_}
+use Prim.Native.Nat.{ℕ, zero, suc, _+_, _*_, _/_, _%_, _≤_, _<_}
 use Rattle.sets.specs.Sets.{In}
 use Rattle.sets.specs.Words.{wordBits}
 use Rattle.sets.specs.Members.{capacity}
@@ -11,7 +11,8 @@ use Rattle.innermost.specs.Columns.{inDegree}
 
 -- the planes of the badges of a set's word, by its place, and the number that stands for badge v in them
 abbrev pub sideOf : Degrees → ℕ → Planes
-sideOf d i = d .low
+sideOf d zero = d .low
+sideOf d (suc i) = d .high
 
 unfoldable pub numberOf : Degrees → ℕ → ℕ
 numberOf d v = lane (planesOf (sideOf d (v / wordBits))) (v % wordBits)
@@ -21,9 +22,9 @@ numberOf d v = lane (planesOf (sideOf d (v / wordBits))) (v % wordBits)
 pub record Counting (rows : ℕ → ℕ) (s k : ℕ) (a : ℕ → ℕ) : Type 0 where
   pub each : (v : ℕ) → In s v → a v + inDegree rows s v + 1 ≡ k + half
 
--- x v is added to the number of each badge v for which there is room for the sum
-pub record Raised (x a b : ℕ → ℕ) : Type 0 where
-  pub sum : (v : ℕ) → v < capacity → a v + x v < 2 * half → b v ≡ a v + x v
+-- x v is added to the number of each member v of s for which there is room for the sum
+pub record Raised (s : ℕ) (x a b : ℕ → ℕ) : Type 0 where
+  pub sum : (v : ℕ) → In s v → a v + x v < 2 * half → b v ≡ a v + x v
 
 -- s has the badges whose number is m or more
 pub record Reached (m : ℕ) (a : ℕ → ℕ) (s : ℕ) : Type 0 where

@@ -1,7 +1,8 @@
 // In-degrees in a set of badges: those of the badges of one word of a set are in the lanes of some planes. For symmetric rows they are the degrees.
 //
 // Rows are added word by word: the words of the rows of the badges of one word, of which the first is `from`, and of these words those of one `side`, that is
-// of one place in each row. So lane v of the planes of a side counts badge v of that word of a set.
+// of one place in each row. So lane v of the planes of a side counts badge v of that word of a set. Where nobody is left among the badges of the upper word,
+// their planes are not worked on, and nobody looks at them: so a day of few badges costs what it would cost with sets of one word.
 ghost use mathlib.Core.Path.{_≡_};
 ghost use Prim.Native.Nat.{_+_, _≤_, _<_};
 ghost use lib.ListN.{length};
@@ -11,7 +12,7 @@ ghost use Rattle.sets.specs.Sets.{full};
 ghost use Rattle.planes.specs.Lanes.{planesOf, half};
 ghost use Rattle.cores.specs.Rows.{graph};
 ghost use Rattle.innermost.specs.Columns.{inDegree};
-ghost use Rattle.innermost.specs.Counting.{rowWord, TakesRow, AddsSome, AddsTo, CountingSide};
+ghost use Rattle.innermost.specs.Counting.{rowWord, TakesRow, AddsSome, AddsTo, AddsSide, CountingSide};
 ghost use Rattle.innermost.specs.Degrees.{numberOf, Counting, Raised, Reached, LargestOf};
 use planes::Planes;
 use sets::BadgeSet;
@@ -19,9 +20,10 @@ use sets::ROW_WORDS;
 use sets::SET_WORDS;
 use sets::WORD_BITS;
 
-// The in-degrees of the badges of a set's word in the lanes of its planes.
+// The in-degrees of the badges of a set's lower word in the lanes of its planes, and those of the badges of the upper word.
 pub(crate) struct Degrees {
     pub(crate) low: Planes,
+    pub(crate) high: Planes,
 }
 
 // A word of the row of one of a word's badges, and its other badges.
@@ -130,17 +132,32 @@ fn count_side(rows: &[u64], s: BadgeSet, k: usize, side: usize) -> Planes
     requires { ⌜ (length (now rows) ≡ rowWords) × (1 ≤ k) × (k ≤ half) × (side < setWords) ⌝ }
     ensures { λ r. ⌜ CountingSide (graph (now (rows .entry))) (members s) k side (planesOf r) ⌝ }
 {
-    let start = planes::constant((planes::HALF - k) as u64);
-    planes::complement(add_word(start, rows, s.to_word(), 0, side))
+    let mut sums = planes::constant((planes::HALF - k) as u64);
+    let mut i: usize = 0;
+    while i < SET_WORDS {
+        let next = add_word(sums, rows, s.word(i), i * WORD_BITS, side);
+        sums = next;
+        i += 1;
+    }
+    planes::complement(sums)
 }
 
-// The in-degrees in a set, counted at order k. The rows come as an array: of a slice made from it, it is known how many words it has.
+// The in-degrees in a set, counted at order k; those of the upper word where the set has badges there. The rows come as an array: of a slice made from it, it is
+// known how many words it has.
 pub(crate) fn count(rows: &[u64; ROW_WORDS], s: BadgeSet, k: usize) -> Degrees
     requires { ⌜ (1 ≤ k) × (k ≤ half) ⌝ }
     ensures { λ r. ⌜ Counting (graph (now (rows .entry))) (members s) k (numberOf r) ⌝ }
 {
+    let low = count_side(rows, s, k, 0);
+    if s.word(1) == 0 {
+        return Degrees {
+            low,
+            high: planes::constant(0),
+        };
+    }
     Degrees {
-        low: count_side(rows, s, k, 0),
+        low,
+        high: count_side(rows, s, k, 1),
     }
 }
 
@@ -161,29 +178,50 @@ fn discount_word(p: Planes, rows: &[u64], word: u64, from: usize, side: usize) -
     out
 }
 
-// Counts the members of a set no longer, by the words of the rows.
-fn discount_set(d: Degrees, rows: &[u64], s: BadgeSet) -> Degrees
-    requires { ⌜ length (now rows) ≡ rowWords ⌝ }
-    ensures { λ r. ⌜ Raised (inDegree (graph (now (rows .entry))) (members s)) (numberOf d) (numberOf r) ⌝ }
+// Counts the members of a set no longer, for the badges of one side.
+fn discount_side(p: Planes, rows: &[u64], s: BadgeSet, side: usize) -> Planes
+    requires { ⌜ (length (now rows) ≡ rowWords) × (side < setWords) ⌝ }
+    ensures { λ r. ⌜ AddsSide (inDegree (graph (now (rows .entry))) (members s)) side (planesOf p) (planesOf r) ⌝ }
 {
+    let lower = discount_word(p, rows, s.word(0), 0, side);
+    discount_word(lower, rows, s.word(1), WORD_BITS, side)
+}
+
+// Counts the members of a set no longer, by the words of the rows, for the badges that are left.
+fn discount_set(d: Degrees, rows: &[u64], s: BadgeSet, left: BadgeSet) -> Degrees
+    requires { ⌜ length (now rows) ≡ rowWords ⌝ }
+    ensures { λ r. ⌜ Raised (members left) (inDegree (graph (now (rows .entry))) (members s)) (numberOf d) (numberOf r) ⌝ }
+{
+    let low = discount_side(d.low, rows, s, 0);
+    let high = d.high;
+    if left.word(1) == 0 {
+        return Degrees { low, high };
+    }
     Degrees {
-        low: discount_word(d.low, rows, s.to_word(), 0, 0),
+        low,
+        high: discount_side(high, rows, s, 1),
     }
 }
 
-// Counts the members of a set no longer.
-pub(crate) fn discount(d: Degrees, rows: &[u64; ROW_WORDS], s: BadgeSet) -> Degrees
-    ensures { λ r. ⌜ Raised (inDegree (graph (now (rows .entry))) (members s)) (numberOf d) (numberOf r) ⌝ }
+// Counts the members of a set no longer, for the badges that are left.
+pub(crate) fn discount(d: Degrees, rows: &[u64; ROW_WORDS], s: BadgeSet, left: BadgeSet) -> Degrees
+    ensures { λ r. ⌜ Raised (members left) (inDegree (graph (now (rows .entry))) (members s)) (numberOf d) (numberOf r) ⌝ }
 {
-    discount_set(d, rows, s)
+    discount_set(d, rows, s, left)
 }
 
-// Counts all at the next order.
-pub(crate) fn raise(d: Degrees) -> Degrees
-    ensures { λ r. ⌜ Raised (λ v. 1) (numberOf d) (numberOf r) ⌝ }
+// Counts the badges that are left at the next order.
+pub(crate) fn raise(d: Degrees, left: BadgeSet) -> Degrees
+    ensures { λ r. ⌜ Raised (members left) (λ v. 1) (numberOf d) (numberOf r) ⌝ }
 {
+    let low = planes::add(d.low, planes::EVERY);
+    let high = d.high;
+    if left.word(1) == 0 {
+        return Degrees { low, high };
+    }
     Degrees {
-        low: planes::add(d.low, planes::EVERY),
+        low,
+        high: planes::add(high, planes::EVERY),
     }
 }
 
@@ -191,12 +229,18 @@ pub(crate) fn raise(d: Degrees) -> Degrees
 pub(crate) fn below(d: Degrees) -> BadgeSet
     ensures { λ r. ⌜ Reached half (numberOf d) (members r) ⌝ }
 {
-    BadgeSet::from_word(d.low.p7)
+    BadgeSet::from_words(d.low.p7, d.high.p7)
 }
 
 // The largest number in the lanes of a set's badges.
 pub(crate) fn largest(d: Degrees, s: BadgeSet) -> usize
     ensures { λ r. ⌜ LargestOf (members s) (numberOf d) r ⌝ }
 {
-    planes::largest(d.low, s.to_word())
+    let low = planes::largest(d.low, s.word(0));
+    let upper = s.word(1);
+    if upper == 0 {
+        return low;
+    }
+    let high = planes::largest(d.high, upper);
+    if low < high { high } else { low }
 }

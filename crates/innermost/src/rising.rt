@@ -102,14 +102,14 @@ fn settle(rows: &[u64; ROW_WORDS], given: Counted, query: BadgeSet, k: usize) ->
         if !query.is_subset(fewer) {
             return none(degrees);
         }
-        let next = discount(degrees, rows, low);
+        let next = discount(degrees, rows, low, fewer);
         degrees = next;
         left = fewer;
     }
 }
 
 // Where to begin, for orders above one and up to another, in a base that contains the query. The base is the core of every order up to its least
-// in-degree: where many orders are to be tried, those up to it are left out.
+// in-degree: where many orders are to be tried, those up to it are left out. After the last order nothing is counted.
 fn start(rows: &[u64; ROW_WORDS], base: BadgeSet, query: BadgeSet, above: u8, stop: u8) -> Beginning
     requires { ⌜ (above < stop) × (stop ≤ capacity) × ((ltb 0 (members base) and isSub (members query) (members base)) ≡ true) ⌝ }
     ensures { λ r. ⌜ Climbing (graph (now (rows .entry))) (members base) (members query) above stop (r .order) (members (r .found)) (members base) (numberOf (r .degrees)) ⌝ }
@@ -128,6 +128,13 @@ fn start(rows: &[u64; ROW_WORDS], base: BadgeSet, query: BadgeSet, above: u8, st
         return lowest;
     }
     let order = capped(least, stop);
+    if order == stop {
+        return Beginning {
+            order,
+            found: base,
+            degrees,
+        };
+    }
     Beginning {
         order,
         found: base,
@@ -158,7 +165,7 @@ fn climb(rows: &[u64; ROW_WORDS], base: BadgeSet, query: BadgeSet, above: u8, st
         order += 1;
         found = core;
         left = core;
-        let raised = raise(next.degrees);
+        let raised = raise(next.degrees, core);
         degrees = raised;
     }
     Found {

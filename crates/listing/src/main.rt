@@ -32,11 +32,12 @@ fn write_listing(answer: Written, report: &[u8]) {
     }
 }
 
-// A log has at most 48,010 bytes, so 48,011 tell whether one follows; a day has at most 6,144 words. A report of more than 65,536 bytes is refused by 9.
+// A log has at most 48,010 bytes, so 48,011 tell whether one follows; 12,288 words are enough for every day of up to 64 badges. A day that needs more is refused by
+// 8, and a report of more than 65,536 bytes by 9.
 fn main() {
     let mut log = [0u8; 48011];
     let size = io::read_full(STDIN_FILENO, &mut log);
-    let mut words = [0u64; 6144];
+    let mut words = [0u64; 12288];
     let mut report = [0u8; 65536];
     let answer = prepare(&log[..size], &mut words, &mut report);
     write_listing(answer, &report);

@@ -64,7 +64,7 @@ module _ {A : Type 0} (o : Outcome A) (further : A → Outcome (List ℕ)) (buff
   unfolding andThen
   deliver-passed a e = rw e
 
--- what is judged after the check of words: words after the first n×T make no difference to the call where they make none to this
+-- what is judged after the check of words: words after the first 2×n×T make no difference to the call where they make none to this
 pub deliver-rest : (n T : ℕ) (ws xs ys buffer : List ℕ) {o p : Outcome (List ℕ)} → length ws ≡ wordsFor n T → o ≡ p
     → deliver (andThen (checkOf n T (ws ++ xs)) (λ x. o)) buffer ≡ deliver (andThen (checkOf n T (ws ++ ys)) (λ x. p)) buffer
 deliver-rest n T ws xs ys buffer e f = ap₂ (λ (c : Outcome (Unit {0})) (o : Outcome (List ℕ)). deliver (andThen c (λ x. o)) buffer) (check-rest n T ws xs ys e) f

@@ -1,20 +1,23 @@
 -- Laws of the columns of a badge: for each larger one, the ticks in which they meet.
-use mathlib.Core.Path.{_≡_, refl, ap, _∙_}
+use mathlib.Core.Path.{_≡_, refl, sym, ap, _∙_}
 use mathlib.Core.Bool.{Bool, true, false}
 use mathlib.Core.List.{List}
-use Prim.Native.Nat.{ℕ, _+_, _-_, _≤_, _<_, min}
+use mathlib.Core.Logic.{by-cases}
+use Prim.Native.Nat.{ℕ, _+_, _-_, _^_, _≤_, _<_, min}
+use native.Mathlib.Decide.{ℕ-discrete, decLt}
 use native.Mathlib.Omega.{arith}
 use lib.Dec.{ltb}
 use lib.ListN.{getD, replicate, getD-replicate}
 use borrow.Author.Tests.{ltb-true, ltb-false}
-use Rattle.sets.specs.Sets.{has, setOf, union, difference, only, full}
+use Rattle.sets.specs.Sets.{bit, has, setOf, union, difference, only, full}
 use Rattle.sets.specs.Members.{capacity}
-use Rattle.sets.specs.Words.{wordBits}
+use Rattle.sets.specs.Words.{wordBits, lowerWords, toWords, inWord}
 use Rattle.sets.specs.Tables.{piecewise}
 use Rattle.sets.proofs.Bools.{same-test, to-false}
 use Rattle.sets.proofs.Sets.{in-test, has-test, out-test, in-set, of-set, of-set-lt, of-difference, in-difference, of-full, set-yes, set-no}
-use Rattle.sets.proofs.Tables.{tabulate-length, tabulate-at, piecewise-in, piecewise-out}
+use Rattle.sets.proofs.Tables.{tabulate-length, tabulate-at, tabulate-same, piecewise-in, piecewise-out, piecewise-same}
 use Rattle.days.specs.Days.{neighbours, adjacent}
+use Rattle.sets.proofs.InWord.{word-has, word-of}
 use Rattle.log.specs.declared.ticks.TickSet.{TickSet}
 use Rattle.log.specs.TickSets.{tickCapacity, hasTick, TicksBelow, united, Columns}
 use Rattle.log.proofs.TickSets.{has-low, has-high}
@@ -25,6 +28,33 @@ has-set m p t h = same-test _ _ (λ e. of-set m p t (in-test _ t e)) (λ e. has-
 
 has-none : (m : ℕ) (p : ℕ → Bool) (t : ℕ) → m ≤ t → has (setOf m p) t ≡ false
 has-none m p t h = to-false _ (λ e. let l = of-set-lt m p t (in-test _ t e) in omega arith)
+
+-- bits added to the columns of the badges of a set, word by word
+pub united-words : (table : List ℕ) (s bits : ℕ) → s < 2 ^ capacity
+    → united (united table (inWord 0 (getD (toWords lowerWords s) 0 0)) bits) (inWord 1 (getD (toWords lowerWords s) 1 0)) bits ≡ united table s bits
+unfolding united
+united-words table s bits h = tabulate-same capacity _ _ (λ v l. by-cases (ℕ-discrete (bit high v) 1)
+    (λ i.
+    let x = word-of s h 1 v i in
+    piecewise-in high _ _ v i
+    ∙ ap (λ (y : ℕ). union y bits) (tabulate-at capacity _ v l ∙ piecewise-out low f g v (λ j. let y = word-of s h 0 v j in omega (arith, x .0, y .0)))
+    ∙ sym (piecewise-in s f g v (x .1)))
+    (λ k.
+    piecewise-out high _ _ v k ∙ tabulate-at capacity _ v l
+    ∙ piecewise-same low s f g v (λ j. word-of s h 0 v j .1)
+    (λ j. word-has s h 0 v j (by-cases (decLt v wordBits) (λ m. omega arith) (λ m. absurd (k (word-has s h 1 v j (omega arith))))))))
+  where
+    low : ℕ
+    low = inWord 0 (getD (toWords lowerWords s) 0 0)
+
+    high : ℕ
+    high = inWord 1 (getD (toWords lowerWords s) 1 0)
+
+    f : ℕ → ℕ
+    f = λ v. union (getD table v 0) bits
+
+    g : ℕ → ℕ
+    g = λ v. getD table v 0
 
 module _ (n : ℕ) (ws : List ℕ) (u from : ℕ) where
   -- before the first tick all columns are empty

@@ -25,7 +25,7 @@ use Rattle.log.proofs.TidyForm.{tidy-same}
 use Rattle.log.proofs.TidyCount.{accepted-few}
 use Rattle.log.proofs.Delivering.{deliver-refused}
 
--- words after the first n×T make no difference
+-- words after the first 2×n×T make no difference
 pub adjacent-append : (n T : ℕ) (ws rest : List ℕ) (t u v : ℕ) → length ws ≡ wordsFor n T → t < T → u < n → adjacent n (ws ++ rest) t u v ≡ adjacent n ws t u v
 unfolding adjacent
 adjacent-append n T ws rest t u v e h k = rw (neighbours-append n T ws rest t u e h k)

@@ -25,20 +25,21 @@ fn unite(columns: &mut [u64], word: u64, i: usize, bits: u64)
     }
 }
 
-// How many of the 64 ticks from one on are ticks of the day.
+// How many of the ticks from one on, as many as a word has bits, are ticks of the day.
 fn window(from: usize, ticks: usize) -> usize
     ensures { λ r. ⌜ r ≡ min wordBits (ticks - from) ⌝ }
 {
     if ticks <= from {
         return 0;
     }
-    if 64 < ticks - from {
-        return 64;
+    if WORD_BITS < ticks - from {
+        return WORD_BITS;
     }
     ticks - from
 }
 
-// Gathers, into empty columns, for each badge v larger than u in which of the 64 ticks from one on u and v meet: bit t is for tick from + t.
+// Gathers, into empty columns, for each badge v larger than u in which of the ticks from one on, as many as a word has bits, u and v meet: bit t is for
+// tick from + t.
 // The set bits of u's words are walked, so a pair costs nothing in a tick in which it does not meet.
 pub(crate) fn gather_columns(
     words: &[u64],
@@ -56,5 +57,6 @@ pub(crate) fn gather_columns(
     for t in 0..m {
         let larger = set_at(words, (from + t) * n + u).difference(smaller);
         unite(columns, larger.word(0), 0, 1 << t);
+        unite(columns, larger.word(1), 1, 1 << t);
     }
 }

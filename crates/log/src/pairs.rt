@@ -9,6 +9,7 @@ use crate::columns::gather_columns;
 use crate::encoding::append_contact;
 use crate::ticks::TickSet;
 use sets::CAPACITY;
+use sets::WORD_BITS;
 
 // Appends the runs of u and v, which meet in the ticks of a set: from the first tick of a run to the one after its last, and on to the
 // next run's first.
@@ -51,7 +52,7 @@ pub(crate) fn append_row(
     let mut lows = [0u64; CAPACITY];
     gather_columns(words, n, ticks, u, 0, &mut lows);
     let mut highs = [0u64; CAPACITY];
-    gather_columns(words, n, ticks, u, 64, &mut highs);
+    gather_columns(words, n, ticks, u, WORD_BITS, &mut highs);
     let mut so_far = count;
     let larger = u + 1;
     for v in larger..n {

@@ -5,6 +5,7 @@ ghost use Rattle.sets.specs.Bools.{isnt};
 ghost use Rattle.sets.specs.Sets.{has, difference, full};
 ghost use Rattle.sets.specs.Words.{wordBits};
 ghost use Rattle.log.specs.TickSets.{hasTick, tickCapacity, First};
+use sets::WORD_BITS;
 
 // Some of the ticks 0 to 127: bit t of the low word says whether tick t is in the set, bit t of the high word whether tick 64 + t is.
 pub(crate) struct TickSet {
@@ -33,14 +34,14 @@ impl TickSet {
         requires { ⌜ from < tickCapacity ⌝ }
         ensures { λ r. ⌜ First (hasTick self) from tickCapacity r ⌝ }
     {
-        if 64 <= from {
-            return 64 + first_bit(self.high, from - 64);
+        if WORD_BITS <= from {
+            return WORD_BITS + first_bit(self.high, from - WORD_BITS);
         }
         let low = first_bit(self.low, from);
-        if low < 64 {
+        if low < WORD_BITS {
             return low;
         }
-        64 + first_bit(self.high, 0)
+        WORD_BITS + first_bit(self.high, 0)
     }
 
     // The first tick from one on that is not in the set; 128 where there is none.

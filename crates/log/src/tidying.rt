@@ -9,8 +9,8 @@ use records::MAX_LOG_BYTES;
 use records::Verdict;
 
 // Reads a log into the work words that are lent, writes its tidy log into the buffer, and answers the number of bytes. Refused by the
-// log, 8 and 9, in that order. Once the log and 8 are passed, the first n×T work words hold the day, also on a refusal by 9; otherwise a
-// refused call changes nothing. Words after the first n×T and bytes after the answer are never touched. A tidy log has no more contact
+// log, 8 and 9, in that order. Once the log and 8 are passed, the first 2×n×T work words hold the day, also on a refusal by 9; otherwise a
+// refused call changes nothing. Words after the first 2×n×T and bytes after the answer are never touched. A tidy log has no more contact
 // records than the log that came in, so there is room for it where there is room for any log, and nothing to test.
 pub fn tidy(log: &[u8], work: &mut [u64], buffer: &mut [u8]) -> Written
     ensures answer { λ r. ⌜ writtenOutcome r ≡ tidyOf (now (log .entry)) (now (work .entry)) (now (buffer .entry)) .answer ⌝ }

@@ -3,7 +3,7 @@
 use mathlib.Core.Path.{_≡_, refl, sym, ap, ap₂, _∙_, subst}
 use mathlib.Core.List.{List, [], _∷_, _++_, map, flatten, List·Memᴰ, List·Memᴰ·head, List·Memᴰ·tail, List·Memᴰ·not-nil, List·Memᴰ·append-cases, Memᴰ·append-left, Memᴰ·append-right}
 use mathlib.Core.List.{List·Permᴰ, List·Permᴰ·nil, List·Permᴰ·cons, List·Permᴰ·swap, List·Permᴰ·trans, Permᴰ·symm}
-use mathlib.Core.Logic.{_↔_, _⊎_, inl, inr}
+use mathlib.Core.Logic.{_⊎_, inl, inr}
 use Prim.Native.Nat.{ℕ, suc, _+_, _*_, _≤_, _<_}
 use native.Mathlib.Omega.{arith}
 use lib.ListN.{length, take, drop, take-append-drop, length-drop}
@@ -11,7 +11,6 @@ use lib.Seq.{length-take-le}
 use Rattle.sets.specs.Bytes.{Bytes}
 use Rattle.sets.specs.Sets.{In}
 use Rattle.sets.proofs.Bytes.{bytes-take, bytes-drop}
-use Rattle.sets.proofs.Sets.{ext}
 use Rattle.records.specs.declared.record.Record.{Record}
 use Rattle.records.specs.Limits.{wordsFor}
 use Rattle.records.specs.Outcomes.{Outcome, success}
@@ -21,7 +20,6 @@ use Rattle.records.proofs.Theorems.{accepted-log}
 use Rattle.days.specs.Days.{neighbours, LentDay}
 use Rattle.days.specs.Calls.{Read}
 use Rattle.series.specs.Series.{parts, judgeLogs, badgesIn, ticksIn, AllSized, Size, commonSize}
-use Rattle.days.proofs.Days.{neighbours-take, same-words}
 use Rattle.series.proofs.SeriesJudged.{fronted, records-count, parts-count, series-passed}
 use Rattle.receivers.specs.Joining.{sum, Join, joinOf}
 use Rattle.receivers.proofs.JoinCall.{succeeded}

@@ -2,12 +2,12 @@
 use mathlib.Core.Path.{_≡_, refl, sym, ap, _∙_, subst}
 use mathlib.Core.Bool.{true}
 use mathlib.Core.List.{List, [], _∷_, _++_, map, flatten, List·Memᴰ·head, List·Memᴰ·not-nil, List·Memᴰ·eq-of-singleton}
-use Prim.Native.Nat.{ℕ, suc, _+_, _≤_, _<_}
+use Prim.Native.Nat.{ℕ, suc, _+_, _*_, _≤_, _<_}
 use native.Mathlib.Omega.{arith}
 use lib.Dec.{leb}
 use lib.ListN.{length, getD, take, drop, replicate}
 use lib.Seq.{getD-take, getD-drop}
-use Rattle.sets.specs.Words.{setAt, fromWords, toWords, wordsOf}
+use Rattle.sets.specs.Words.{setWords, setAt, fromWords, toWords, wordsOf}
 use Rattle.sets.specs.Bools.{_and_, _or_, isnt}
 use Rattle.sets.specs.Bytes.{littleEndian, fromLittleEndian}
 use Rattle.sets.specs.Sets.{In, digit, bit, setOf}
@@ -52,10 +52,10 @@ abbrev pair : List Record → List Record → List (List ℕ)
 pair x y = bytesOf x ∷ bytesOf y ∷ []
 
 abbrev lentWords : List ℕ
-lentWords = 7 ∷ 7 ∷ []
+lentWords = replicate (2 * setWords) 7
 
 abbrev lentWork : List ℕ
-lentWork = 7 ∷ 7 ∷ 7 ∷ 7 ∷ 7 ∷ []
+lentWork = replicate (4 * setWords + 1) 7
 
 asked : {x y : List Record} → IsLog (bytesOf x) 2 1 x → IsLog (bytesOf y) 2 1 y → (q : ℕ) → 1 ≤ q → q ≤ 2 → JoinAsked 2 1 q (pair x y) (x ∷ y ∷ []) lentWords lentWork
 asked l m q h k = record { are = more l (more m none); several = omega arith; few = omega arith; some = h; most = k; room = omega arith; work-room = omega arith }
@@ -132,15 +132,16 @@ abbrev LeavesWork : Call → (ℕ → ℕ → List ℕ → List ℕ → Type 0) 
 LeavesWork call P =
     (n T q : ℕ) (logs : List (List ℕ)) (all : List (List Record)) (words work : List ℕ) → JoinAsked n T q logs all words work → P n T work (call (flatten logs) (map length logs) q words work .work)
 
--- Clearing the work words of one log alone: any call that keeps those after the first n×T, and so any that keeps all of them.
+-- Clearing the work words of one log alone: any call that keeps those after the first 2×n×T, and so any that keeps all of them.
 pub work-of-one-log-cleared : (call : Call) → LeavesWork call (λ n T work left. drop (wordsFor n T) left ≡ drop (wordsFor n T) work) → Joins call → ⊥
 work-of-one-log-cleared call e p =
     let a = asked once-log never-log 1 (omega arith) (omega arith) in
     let left = call (flatten (pair once never)) (map length (pair once never)) 1 lentWords lentWork .work in
-    let zeros : take 4 left ≡ 0 ∷ 0 ∷ 0 ∷ 0 ∷ [] = p .succeeds 2 1 1 _ _ lentWords lentWork a .cleared .zeros in
-    let kept : drop 2 left ≡ 7 ∷ 7 ∷ 7 ∷ [] = e 2 1 1 _ _ lentWords lentWork a in
-    let third : getD left 2 0 ≡ 0 = sym (getD-take 4 left 2 0 (omega arith)) ∙ ap (λ (l : List ℕ). getD l 2 0) zeros in
-    let same : getD left 2 0 ≡ 7 = sym (getD-drop 2 left 0 0) ∙ ap (λ (l : List ℕ). getD l 0 0) kept in
+    let second = 2 * setWords in
+    let zeros : take (4 * setWords) left ≡ replicate (4 * setWords) 0 = p .succeeds 2 1 1 _ _ lentWords lentWork a .cleared .zeros in
+    let kept : drop second left ≡ drop second lentWork = e 2 1 1 _ _ lentWords lentWork a in
+    let clear : getD left second 0 ≡ 0 = sym (getD-take (4 * setWords) left second 0 (omega arith)) ∙ ap (λ (l : List ℕ). getD l second 0) zeros in
+    let same : getD left second 0 ≡ 7 = sym (getD-drop second left 0 0) ∙ ap (λ (l : List ℕ). getD l 0 0) kept in
     omega arith
 
 pub work-kept : (call : Call) → LeavesWork call (λ n T work left. left ≡ work) → Joins call → ⊥
@@ -151,8 +152,8 @@ pub work-beyond-cleared : (call : Call) → LeavesWork call (λ n T work left. l
 work-beyond-cleared call e p =
     let a = asked once-log never-log 1 (omega arith) (omega arith) in
     let left = call (flatten (pair once never)) (map length (pair once never)) 1 lentWords lentWork .work in
-    let keeps : drop 4 left ≡ 7 ∷ [] = p .succeeds 2 1 1 _ _ lentWords lentWork a .cleared .keeps in
-    let zeros : drop 4 left ≡ 0 ∷ [] = ap (drop 4) (e 2 1 1 _ _ lentWords lentWork a) in
+    let keeps : drop (4 * setWords) left ≡ 7 ∷ [] = p .succeeds 2 1 1 _ _ lentWords lentWork a .cleared .keeps in
+    let zeros : drop (4 * setWords) left ≡ 0 ∷ [] = ap (drop (4 * setWords)) (e 2 1 1 _ _ lentWords lentWork a) in
     let z : _≡_ {A = ℕ} 7 0 = ap (λ (l : List ℕ). getD l 0 0) (sym keeps ∙ zeros) in
     omega arith
 
@@ -215,7 +216,7 @@ nothing-refused : judge [] ≡ refused 1 0
 unfolding computing
 nothing-refused = refl
 
-second-refused : JoinRefusal (bytesOf never ++ []) (length (bytesOf never) ∷ 0 ∷ []) 1 2 5 1 10
+second-refused : JoinRefusal (bytesOf never ++ []) (length (bytesOf never) ∷ 0 ∷ []) 1 (length lentWords) (length lentWork) 1 10
 unfolding computing
 second-refused = by-log (record { several = omega arith; few = omega arith; some = omega arith; most = omega arith; whole = refl }) refl
 

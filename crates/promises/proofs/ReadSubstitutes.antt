@@ -1,16 +1,15 @@
 -- Substitutes for reading that document 01's acceptance list names, each refuted from the promise that read keeps (specs/Reading).
 use mathlib.Core.Path.{_≡_, refl, ap}
 use mathlib.Core.List.{List, List·Memᴰ·head, List·Memᴰ·tail}
-use Prim.Native.Nat.{ℕ, _<_}
+use Prim.Native.Nat.{ℕ}
 use native.Mathlib.Omega.{arith}
 use Rattle.sets.specs.Words.{setAt, fromWords, toWords, wordsOf}
-use Rattle.sets.proofs.Sets.{not-in-none, ext}
+use Rattle.sets.proofs.Sets.{not-in-none}
 use Rattle.records.specs.Outcomes.{Outcome, refused, success}
 use Rattle.records.specs.Verdicts.{Values}
 use Rattle.records.proofs.Outcomes.{refused-success, success-same}
 use Rattle.days.specs.Days.{neighbours}
 use Rattle.days.specs.Calls.{Read}
-use Rattle.days.proofs.Days.{same-words}
 use Rattle.promises.specs.Reading.{HasRead, Reads}
 use Rattle.promises.proofs.ReadTheorems.{days-same}
 use Rattle.promises.proofs.SmallLogs.{never, once, twice, bytesOf, never-log, in-twice, once-log, twice-log, two, met}

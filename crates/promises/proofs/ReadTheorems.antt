@@ -60,7 +60,7 @@ accepted-passes log rs rest e =
     let l = day-length (badgesOf rs) (ticksOf rs) (inContact rs) in
     check-append _ _ _ rest l ∙ check-day _ _ _ (accepted-of 0 log rs e .limits) (le-of-eq (sym l)) (accepted-day log rs e)
 
--- Lent n×T words or more, reading an accepted log succeeds.
+-- Lent 2×n×T words or more, reading an accepted log succeeds.
 pub read-succeeds : (log ws : List ℕ) (rs : List Record) → judge log ≡ success rs → wordsFor (badgesOf rs) (ticksOf rs) ≤ length ws → readOf log ws .answer ≡ success (valuesOf rs)
 read-succeeds log ws rs e h = ap (λ (x : Read). x .answer) (read-success log ws rs e h)
 

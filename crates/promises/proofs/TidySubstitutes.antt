@@ -3,12 +3,12 @@ use mathlib.Core.Path.{_≡_, refl, sym, ap, _∙_}
 use mathlib.Core.Bool.{Bool, true}
 use mathlib.Core.List.{List, [], _∷_, List·Memᴰ·head, List·Memᴰ·tail, List·Memᴰ·not-nil}
 use mathlib.Core.Logic.{_↔_}
-use Prim.Native.Nat.{ℕ, _+_, _-_, _≤_, _<_}
+use Prim.Native.Nat.{ℕ, _+_, _-_, _*_, _≤_, _<_}
 use native.Mathlib.Omega.{arith}
 use lib.ListN.{length, getD, drop, replicate, length-replicate}
 use lib.Seq.{take-at}
 use lib.ListN.{take}
-use Rattle.sets.specs.Words.{setAt, fromWords, toWords, wordsOf}
+use Rattle.sets.specs.Words.{setWords, setAt, fromWords, toWords, wordsOf}
 use Rattle.sets.specs.Bools.{_and_, _or_, isnt}
 use Rattle.sets.specs.Bytes.{littleEndian}
 use Rattle.sets.specs.Tables.{concatBelow, keepIf}
@@ -165,7 +165,7 @@ bound-before-measuring read tidy tidied bound e p =
     low high
   where
     twelve : List ℕ
-    twelve = zeros 12
+    twelve = zeros (12 * setWords)
 
     lent : List ℕ
     lent = zeros 34
@@ -174,7 +174,7 @@ bound-before-measuring read tidy tidied bound e p =
     long = zeros-length 34
 
     enough : wordsFor 4 3 ≤ length twelve
-    enough = omega (arith, zeros-length 12)
+    enough = omega (arith, zeros-length (12 * setWords))
 
     succeeds : HasTidied 4 3 pieces (tidied (encodeAll (logRecords 4 3 pieces))) twelve lent (tidy (encodeAll (logRecords 4 3 pieces)) twelve lent)
     succeeds = p .succeeds _ twelve lent 4 3 pieces pieces-log enough (omega (arith, long, ap length (promised-bytes p _ 4 3 pieces pieces-log), pieces-length))

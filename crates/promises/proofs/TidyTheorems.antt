@@ -112,7 +112,7 @@ module _ (log : List ℕ) (n T : ℕ) (cts : List Record) (l : IsLog log n T cts
       both : (t u v : ℕ) → t < T → u < n → v < n → inContact (logRecords n T cts) t u v ≡ true → inContact (logRecords n T cts) t v u ≡ true
       both t u v h k m e = contact-swap (logRecords n T cts) t u v e
 
-  -- Lent n×T words or more, the tidied log is the answer, if the buffer holds it.
+  -- Lent 2×n×T words or more, the tidied log is the answer, if the buffer holds it.
   module _ (work : List ℕ) (h : wordsFor n T ≤ length work) where
     tidy-bytes : tidyBefore9 log work ≡ success (tidiedOf log)
     unfolding logRecords badgesOf ticksOf

@@ -1,4 +1,4 @@
--- What the promise of the trace comes to, for every call that keeps it: it leaves no choice; words after the first n×T make no difference; the trace of a
+-- What the promise of the trace comes to, for every call that keeps it: it leaves no choice; words after the first 2×n×T make no difference; the trace of a
 -- log is over the log's own contacts, and two logs that mean the same have the same trace; a later start never reaches a badge sooner.
 use mathlib.Core.Path.{_≡_, refl, sym, ap, _∙_, subst}
 use mathlib.Core.Bool.{true}
@@ -84,7 +84,7 @@ module _ {call other : ℕ → ℕ → List ℕ → ℕ → ℕ → List ℕ →
 lent-same : {n T : ℕ} {xs ys : List ℕ} → LentDay n T xs → LentDay n T ys → checkOf n T xs ≡ checkOf n T ys
 lent-same x y = check-day _ _ _ (x .limits) (x .enough) (x .day) ∙ sym (check-day _ _ _ (y .limits) (y .enough) (y .day))
 
--- words that differ after the first n×T alone have the same contacts
+-- words that differ after the first 2×n×T alone have the same contacts
 rest-contact : (n T : ℕ) (ws xs ys : List ℕ) → length ws ≡ wordsFor n T → (t u v : ℕ) → Contact n T (ws ++ xs) t u v → Contact n T (ws ++ ys) t u v
 rest-contact n T ws xs ys l t u v c = record {
   tick = c .tick;
@@ -164,7 +164,7 @@ module _ {call : ℕ → ℕ → List ℕ → ℕ → ℕ → List ℕ → Deliv
   pub no-choice : (n T : ℕ) (ws : List ℕ) (index s : ℕ) (buffer : List ℕ) → call n T ws index s buffer ≡ traceOf n T ws index s buffer
   no-choice n T ws = same-contacts p traces refl (λ t u v c. c) (λ t u v c. c)
 
-  -- Words after the first n×T make no difference.
+  -- Words after the first 2×n×T make no difference.
   pub trace-rest : (n T : ℕ) (ws xs ys : List ℕ) → length ws ≡ wordsFor n T → (index s : ℕ) (buffer : List ℕ) → call n T (ws ++ xs) index s buffer ≡ call n T (ws ++ ys) index s buffer
   trace-rest n T ws xs ys l = same-contacts p p (check-rest n T ws xs ys l) (rest-contact n T ws xs ys l) (rest-contact n T ws ys xs l)
 

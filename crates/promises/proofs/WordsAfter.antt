@@ -1,4 +1,4 @@
--- Words after the first n×T make no difference to core numbers, the report and the plan.
+-- Words after the first 2×n×T make no difference to core numbers, the report and the plan.
 use mathlib.Core.Path.{_≡_, refl, sym, ap, _∙_}
 use mathlib.Core.Bool.{Bool, true, false}
 use mathlib.Core.List.{List, _++_}
@@ -56,7 +56,7 @@ plan-head n T xs ys base query h f = ap (λ (o : Outcome (List ℕ)). refuseIf (
         ap (λ (ps : List SpanCore). success (planBytes n T h query ps)) (plan-same f query h (leb-true _ _ (and-left _ _ e)) (leb-true _ _ (and-right _ _ e)) ∙ zero-shown n ys base query T h)
     counted false e = refl
 
--- words after the first n×T make no difference to a call where they make none to what it judges after the badges under review
+-- words after the first 2×n×T make no difference to a call where they make none to what it judges after the badges under review
 judged-rest : (n T : ℕ) (ws xs ys : List ℕ) (base : ℕ) (buffer : List ℕ) {o p : Outcome (List ℕ)} → length ws ≡ wordsFor n T → (n ≤ capacity → Sub base (full n) → o ≡ p)
     → deliver (andThen (reviewOf n T (ws ++ xs) base) (λ x. o)) buffer ≡ deliver (andThen (reviewOf n T (ws ++ ys) base) (λ x. p)) buffer
 judged-rest n T ws xs ys base buffer {o} {p} e f = ap (λ (r : Outcome (Unit {0})). deliver (andThen r (λ x. o)) buffer) first ∙ go (reviewOf n T (ws ++ ys) base) refl
@@ -69,7 +69,7 @@ judged-rest n T ws xs ys base buffer {o} {p} e f = ap (λ (r : Outcome (Unit {0}
     go (refused a b) g = deliver-refused _ _ buffer a b g ∙ sym (deliver-refused _ _ buffer a b g)
     go (success x) g = ap (λ (q : Outcome (List ℕ)). deliver (andThen (reviewOf n T (ws ++ ys) base) (λ x. q)) buffer) (let d = review-day n T (ws ++ ys) base g in f (limits-of (d .0 .limits) .few) (d .1 .named))
 
--- Words after the first n×T make no difference.
+-- Words after the first 2×n×T make no difference.
 module _ (n T : ℕ) (ws xs ys : List ℕ) (base : ℕ) (e : length ws ≡ wordsFor n T) where
   rest : n ≤ capacity → Sub base (full n) → SameSpans n T (ws ++ xs) (ws ++ ys) base base
   rest w r = same-spans w (same-rest n T ws xs ys e) r

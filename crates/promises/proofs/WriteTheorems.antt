@@ -1,4 +1,4 @@
--- Theorems of writing: its promise, as it stands in specs/WrittenDays, proved of the call; and that words after the first n×T make
+-- Theorems of writing: its promise, as it stands in specs/WrittenDays, proved of the call; and that words after the first 2×n×T make
 -- no difference.
 use mathlib.Core.Path.{_≡_, refl, sym, ap, ap₂, _∙_, subst}
 use mathlib.Core.Bool.{true}
@@ -102,7 +102,7 @@ writes = record {
   back = λ n T ws lent runs h fit k. write-back n T ws runs h k lent fit;
 }
 
--- Words after the first n×T make no difference.
+-- Words after the first 2×n×T make no difference.
 pub write-rest : (n T : ℕ) (ws xs ys buffer : List ℕ) → length ws ≡ wordsFor n T → writeOf n T (ws ++ xs) buffer ≡ writeOf n T (ws ++ ys) buffer
 unfolding writeOf writeJudged tidyLog
 write-rest n T ws xs ys buffer e = deliver-rest n T ws xs ys buffer e (rw (tidy-same n T _ _ same) refl)

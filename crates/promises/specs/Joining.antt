@@ -28,7 +28,7 @@ pub data AtLeast {A : Type 0} (P : A → Type 0) : ℕ → List A → Type 0 whe
 abbrev pub MetBy : ℕ → List (List Record) → ℕ → ℕ → ℕ → Type 0
 MetBy q all t u v = AtLeast (λ cts. Met cts t u v) q all
 
--- From 2 to 4 logs of one n and T that a quorum of them is asked of, lent n×T day words or more and as many work words for each log.
+-- From 2 to 4 logs of one n and T that a quorum of them is asked of, lent 2×n×T day words or more and as many work words for each log.
 pub record JoinAsked (n T q : ℕ) (logs : List (List ℕ)) (all : List (List Record)) (words work : List ℕ) : Type 0 where
   pub are : AreLogs n T logs all
   pub several : minLogs ≤ length logs
@@ -45,7 +45,7 @@ pub record Cleared (count : ℕ) (lent work : List ℕ) : Type 0 where
   pub long : length work ≡ length lent
 
 -- What a call leaves that has joined logs of these contacts: it answers n and T, the words hold the day of the contacts that at least q of the
--- logs have, and n×T work words for each log are zero.
+-- logs have, and 2×n×T work words for each log are zero.
 pub record HasJoined (n T q : ℕ) (all : List (List Record)) (words work : List ℕ) (left : Join) : Type 0 where
   pub answers : left .answer ≡ success (record { badges = n; ticks = T })
   pub day : HoldsDay n T (MetBy q all) words (left .words)

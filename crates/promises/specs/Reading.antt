@@ -27,6 +27,6 @@ pub record HasRead (n T : ℕ) (cts : List Record) (lent : List ℕ) (left : Rea
   pub answers : left .answer ≡ success (record { badges = n; ticks = T; contacts = length cts })
   pub day : HoldsDay n T (Met cts) lent (left .words)
 
--- a call that reads every log, lent n×T words or more
+-- a call that reads every log, lent 2×n×T words or more
 abbrev pub Reads : (List ℕ → List ℕ → Read) → Type 0
 Reads call = (log lent : List ℕ) (n T : ℕ) (cts : List Record) → IsLog log n T cts → wordsFor n T ≤ length lent → HasRead n T cts lent (call log lent)

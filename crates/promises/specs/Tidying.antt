@@ -59,7 +59,7 @@ pub data TidyRefusal (log work buffer tidied : List ℕ) : ℕ → ℕ → Type 
 
 -- A call that tidies every log, making these bytes of each:
 pub record Tidies (read : List ℕ → List ℕ → Read) (tidy : List ℕ → List ℕ → List ℕ → Tidied) (tidied : List ℕ → List ℕ) : Type 0 where
-  -- lent n×T words or more and a buffer of the tidy length or more, it succeeds; with a shorter buffer it is refused by 9
+  -- lent 2×n×T words or more and a buffer of the tidy length or more, it succeeds; with a shorter buffer it is refused by 9
   pub succeeds : (log work buffer : List ℕ) (n T : ℕ) (cts : List Record) → IsLog log n T cts → wordsFor n T ≤ length work
       → length (tidied log) ≤ length buffer → HasTidied n T cts (tidied log) work buffer (tidy log work buffer)
   pub measures : (log work buffer : List ℕ) (n T : ℕ) (cts : List Record) → IsLog log n T cts → wordsFor n T ≤ length work

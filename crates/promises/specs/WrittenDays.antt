@@ -15,7 +15,7 @@ use Rattle.days.specs.Calls.{Read}
 use Rattle.log.specs.Tidy.{IsTidy}
 use Rattle.log.specs.Buffers.{Delivered}
 
--- words of which the first n×T are a day, and the unbroken runs of its pairs, in order
+-- words of which the first 2×n×T are a day, and the unbroken runs of its pairs, in order
 pub record HasRuns (n T : ℕ) (ws : List ℕ) (runs : List Record) : Type 0 where
   pub lent : LentDay n T ws
   pub tidy : IsTidy n T (λ t u v. In (neighbours n ws t u) v) runs

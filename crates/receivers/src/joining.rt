@@ -11,9 +11,9 @@ use days::clear;
 use days::read_series;
 use sets::SET_WORDS;
 
-// Joins from 2 to 4 logs that lie end to end, as the lengths say, into the words that are lent: word t×n+u has bit v set exactly when at least a quorum
-// of the logs have u and v in contact in tick t. Refused by 18, the logs in their order, 19 and 8; a refused call changes no word. The first n×T work
-// words for each log end as zero, and words after these and after the first n×T are never touched.
+// Joins from 2 to 4 logs that lie end to end, as the lengths say, into the words that are lent: the set at place t×n+u has badge v exactly when at least a quorum
+// of the logs have u and v in contact in tick t. Refused by 18, the logs in their order, 19 and 8; a refused call changes no word. The first 2×n×T work
+// words for each log end as zero, and words after these and after the first 2×n×T are never touched.
 pub fn join(
     logs: &[u8],
     lengths: &[usize],

@@ -1,4 +1,4 @@
--- Laws of the limits: the test passes exactly when n and T are within them, and a day within them takes at most 6,144 words.
+-- Laws of the limits: the test passes exactly when n and T are within them, and a day within them takes at most 24,576 words.
 use mathlib.Core.Path.{_≡_}
 use mathlib.Core.Bool.{true}
 use Prim.Native.Nat.{ℕ, _≤_}
@@ -33,6 +33,6 @@ unfolding withinLimits
 limits-in {n} {T} l =
     and-in _ _ (and-in _ _ (and-in _ _ (le-leb _ _ (l .some)) (le-leb _ _ (l .few))) (le-leb _ _ (l .long))) (le-leb _ _ (l .short))
 
--- within the limits a day takes at most 96 × 64 words
+-- within the limits a day takes at most 96 × 128 sets
 pub words-most : (n T : ℕ) → Limits n T → wordsFor n T ≤ maxWords
 words-most n T l = omega (arith, mul-le-mul (l .short) (l .few))

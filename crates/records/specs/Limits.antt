@@ -1,4 +1,4 @@
--- The limits and sizes of document 01, each named once.
+-- The limits and sizes of document 01, with the badges and words of request Nine, each named once.
 use mathlib.Core.Bool.{Bool}
 use Prim.Native.Nat.{ℕ, _*_}
 use lib.Dec.{leb}
@@ -7,7 +7,7 @@ use Rattle.sets.specs.Words.{setWords}
 
 -- the most badges, ticks and contact records
 abbrev pub maxBadges : ℕ
-maxBadges = 64
+maxBadges = 128
 
 abbrev pub maxTicks : ℕ
 maxTicks = 96
@@ -19,7 +19,7 @@ maxContacts = 8000
 abbrev pub maxLogBytes : ℕ
 maxLogBytes = 48010
 
--- "n from 1 to 64", "T from 1 to 96"
+-- "n rises to 128"; "T from 1 to 96"
 unfoldable pub withinLimits : ℕ → ℕ → Bool
 withinLimits n T = leb 1 n and leb n maxBadges and leb 1 T and leb T maxTicks
 
@@ -27,6 +27,6 @@ withinLimits n T = leb 1 n and leb n maxBadges and leb 1 T and leb T maxTicks
 abbrev pub wordsFor : ℕ → ℕ → ℕ
 wordsFor n T = T * n * setWords
 
--- the words of the largest day, 64 badges and 96 ticks
+-- the words of the largest day, 128 badges and 96 ticks
 abbrev pub maxWords : ℕ
-maxWords = 6144
+maxWords = 24576

@@ -1,8 +1,8 @@
-// The limits of document 01.
+// The limits of document 01; that of badges is request Nine's.
 ghost use mathlib.Core.Path.{_≡_};
 ghost use Rattle.records.specs.Limits.{withinLimits};
 
-pub const MAX_BADGES: usize = 64;
+pub const MAX_BADGES: usize = 128;
 
 pub const MAX_TICKS: usize = 96;
 

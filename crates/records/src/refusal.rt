@@ -17,7 +17,7 @@ pub enum Refusal {
     WrongCount { at: usize },
     // 7: bytes follow ED.
     TrailingBytes { at: usize },
-    // 8: fewer than n×T words lent.
+    // 8: fewer than 2×n×T words lent.
     TooFewWords,
     // 9: the result buffer is shorter than the exact answer.
     BufferTooShort,

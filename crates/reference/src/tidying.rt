@@ -3,8 +3,8 @@ ghost use Prim.Native.Nat.{_≤_};
 use crate::bits::has;
 use crate::bytes::BH;
 use crate::bytes::Bytes;
+use crate::words::sets_for;
 use crate::words::word_of;
-use crate::words::words_for;
 use std::num::wrapping_add_usize;
 use std::num::wrapping_sub_usize;
 
@@ -37,7 +37,7 @@ pub fn tidy_log(words: &[u64], n: usize, ticks: usize) -> Bytes
         return Bytes::none();
     }
     let mut log = Bytes::none().with_record(BH, n, ticks);
-    for pair in 0..words_for(n, n) {
+    for pair in 0..sets_for(n, n) {
         let longer = with_pair(log, words, n, ticks, pair / n, pair % n);
         log = longer;
     }

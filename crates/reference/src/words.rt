@@ -1,5 +1,5 @@
-// The words of a day. Word t×n + u is that of badge u in tick t: it has the badges in contact with u. The word that a log says is found slowly, by
-// looking at each of its contacts.
+// The words of a day. Word 2(t×n + u) is that of badge u in tick t: it has the badges in contact with u. The next word is for badges from 64 on, of which
+// there are none here. The word that a log says is found slowly, by looking at each of its contacts.
 ghost use mathlib.Core.Path.{_≡_};
 ghost use Prim.Native.Nat.{_≤_};
 ghost use Rattle.reference.specs.Verdicts.{pattern};
@@ -16,8 +16,8 @@ use std::num::wrapping_add_usize;
 // What each word holds before a call.
 pub const PATTERN: u64 = 0xa5c3_96f0_5a3c_690f;
 
-// How many words a day of n badges and T ticks has: none beyond the limits.
-pub(crate) fn words_for(n: usize, ticks: usize) -> usize
+// How many sets a day of n badges and T ticks has: none beyond the limits.
+pub(crate) fn sets_for(n: usize, ticks: usize) -> usize
     ensures { λ r. ⌜ r ≤ 6144 ⌝ }
 {
     if MAX_BADGES < n {
@@ -31,7 +31,8 @@ pub(crate) fn words_for(n: usize, ticks: usize) -> usize
 
 // The word of badge u in tick t of a day of n badges; 0 where no word stands.
 pub(crate) fn word_of(words: &[u64], n: usize, t: usize, u: usize) -> u64 {
-    let at = wrapping_add_usize(words_for(n, t), u);
+    let set = wrapping_add_usize(sets_for(n, t), u);
+    let at = wrapping_add_usize(set, set);
     if words.len() <= at {
         return 0;
     }
@@ -68,14 +69,18 @@ fn partners(log: &[u8], t: usize, u: usize) -> u64 {
 // Word i as a call leaves it that reads a log: one of the day's, where the log is accepted, and else the pattern.
 pub fn word_after(log: &[u8], verdict: Verdict, i: usize) -> u64
     ensures refused { λ r. ⌜ (verdict .badges ≡ 0 → r ≡ pattern) ⌝ }
-    ensures after { λ r. ⌜ (6144 ≤ i → r ≡ pattern) ⌝ }
+    ensures after { λ r. ⌜ (12288 ≤ i → r ≡ pattern) ⌝ }
 {
     let n = verdict.badges;
     if n == 0 {
         return PATTERN;
     }
-    if words_for(n, verdict.ticks) <= i {
+    let set = i / 2;
+    if sets_for(n, verdict.ticks) <= set {
         return PATTERN;
     }
-    partners(log, i / n, i % n)
+    if i % 2 == 1 {
+        return 0;
+    }
+    partners(log, set / n, set % n)
 }

@@ -14,6 +14,8 @@ pub mod Blocks
 pub mod Words
 pub mod InWord
 pub mod WordByWord
+pub mod FirstWord
+pub mod Pairs
 pub mod Places
 pub mod OneWord
 pub mod EachWord

@@ -1,19 +1,20 @@
 -- Laws of sets that stand one after the other in words: the set at each place, a set put at a place, and the words of a list of sets.
 use mathlib.Core.Path.{_≡_, refl, sym, ap, ap₂, _∙_}
-use mathlib.Core.Bool.{true, false}
 use mathlib.Core.List.{List, [], _∷_, _++_, append-nil, append-assoc}
 use mathlib.Core.Logic.{by-cases}
 use Prim.Native.Nat.{ℕ, zero, suc, _+_, _-_, _*_, _/_, _%_, _^_, _≤_, _<_, zero-le, suc-le-suc}
 use native.Mathlib.Nat.{le-of-suc-le-suc, not-suc-le-zero}
 use native.Mathlib.Decide.{ℕ-discrete, decLt}
+use native.Mathlib.Numerals.{add-one}
 use native.Mathlib.Omega.{arith}
 use lib.Dec.{lit<}
-use lib.ListN.{length, getD, set, take, drop, length-append, length-drop, List·getD-append, List·getD-eq-default, replicate, replicate-append-replicate}
+use lib.ListN.{length, getD, set, take, drop, length-append, length-drop, List·getD-append, replicate, replicate-append-replicate}
 use lib.Seq.{drop-cons, sets, sets-eq, length-sets, take-all, take-at, drop-at, length-take-le, getD-take, getD-drop, getD-set-other, ext-getD, getD-append-add}
 use borrow.Author.Tests.{lt-ltb, le-ltb}
 use Rattle.sets.specs.Sets.{bit}
 use Rattle.sets.specs.Words.{wordBits, Words, fromWords, toWords, lowerWords, setWords, places, wordsAt, setAt, putSet, wordsOf}
 use Rattle.sets.specs.Members.{capacity}
+use Rattle.sets.proofs.Sets.{some, in-lt}
 use Rattle.sets.proofs.Words.{words-nil, words-bit, words-lt, length-to-words, to-words-words, from-to-words, to-from-words}
 
 -- the set at a place that the words reach, and at another
@@ -25,22 +26,20 @@ pub set-at-out : (ws : List ℕ) (i : ℕ) → places ws ≤ i → setAt ws i �
 unfolding setAt
 set-at-out ws i h = rw (le-ltb i (places ws) h, setAt)
 
--- as long as a set has one word, the set at a place is the word there
-pub one-word : (ws : List ℕ) (i : ℕ) → getD ws i 0 ≡ setAt ws i
-unfolding fromWords
-one-word ws i = by-cases (decLt i (length ws))
-    (λ h.
-    let e : i * setWords ≡ i = omega arith in
-    let f : 0 * 2 ^ wordBits + getD ws i 0 ≡ getD ws i 0 = omega arith in
-    sym (set-at-in ws i (omega arith) ∙ rw e (ap (λ (x : List ℕ). fromWords (take setWords x)) (drop-cons ws i 0 h)) ∙ f))
-    (λ h. List·getD-eq-default ws 0 {n = i} (omega arith) ∙ sym (set-at-out ws i (omega arith)))
-
 -- the words at a place are as many as a set has, and those
 pub at-length : (ws : List ℕ) (i : ℕ) → i < places ws → length (wordsAt ws i) ≡ setWords
 at-length ws i h = length-take-le setWords (drop (i * setWords) ws) (rw length-drop (omega arith))
 
 pub at-word : (ws : List ℕ) (i j : ℕ) → j < setWords → getD (wordsAt ws i) j 0 ≡ getD ws (i * setWords + j) 0
 at-word ws i j h = getD-take setWords (drop (i * setWords) ws) j 0 h ∙ getD-drop (i * setWords) ws j 0
+
+-- of two words, both
+pub at-two : (ws : List ℕ) (i : ℕ) → i < places ws → wordsAt ws i ≡ getD ws (i * setWords) 0 ∷ getD ws (i * setWords + 1) 0 ∷ []
+at-two ws i h =
+    rw (add-one (i * setWords)) (ap (take setWords) (drop-cons ws (i * setWords) 0 (omega arith) ∙ ap (λ (x : List ℕ). getD ws (i * setWords) 0 ∷ x) (drop-cons ws (suc (i * setWords)) 0 (omega arith))))
+
+pub set-at-two : (ws : List ℕ) (i : ℕ) → i < places ws → setAt ws i ≡ fromWords (getD ws (i * setWords) 0 ∷ getD ws (i * setWords + 1) 0 ∷ [])
+set-at-two ws i h = set-at-in ws i h ∙ ap fromWords (at-two ws i h)
 
 pub at-words : (ws : List ℕ) (i : ℕ) → i < places ws → Words ws → Words (wordsAt ws i)
 at-words ws i h w = record {
@@ -78,6 +77,16 @@ pub set-at-lt : (ws : List ℕ) (i : ℕ) → Words ws → setAt ws i < 2 ^ capa
 set-at-lt ws i w = by-cases (decLt i (places ws))
     (λ h. let l = words-lt (wordsAt ws i) (at-words ws i h w) in rw (set-at-in ws i h) (rw (at-length ws i h) at l))
     (λ h. rw (set-at-out ws i (omega arith)) (lit< tt))
+
+-- word x of a set that has no badge from there on is 0
+pub word-none-above : (ws : List ℕ) (i x : ℕ) → Words ws → i < places ws → x < setWords → setAt ws i < 2 ^ (x * wordBits) → getD ws (i * setWords + x) 0 ≡ 0
+word-none-above ws i x w h l small = by-cases (ℕ-discrete (getD ws (i * setWords + x) 0) 0) (λ e. e) (λ f.
+    let m = some (getD ws (i * setWords + x) 0) f in
+    let b : m .0 < wordBits = in-lt wordBits _ (m .0) (w .at (i * setWords + x) (omega arith)) (m .1) in
+    let q : (x * wordBits + m .0) / wordBits ≡ x = omega arith in
+    let r : (x * wordBits + m .0) % wordBits ≡ m .0 = omega arith in
+    let e = set-at-bit ws i (x * wordBits + m .0) w h (omega arith) in
+    omega (arith, in-lt (x * wordBits) (setAt ws i) (x * wordBits + m .0) small (rw (q, r) at e ∙ m .1)))
 
 -- lists of words of m sets that have the same set at each place are the same
 pub sets-same : (m : ℕ) (vs ws : List ℕ) → length vs ≡ m * setWords → length ws ≡ m * setWords → Words vs → Words ws

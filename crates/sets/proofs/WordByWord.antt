@@ -1,9 +1,9 @@
 -- Laws of operations on sets in words, word by word, for any number of words: intersection, union, the two differences, one badge more or less,
 -- the size, and all badges below n.
-use mathlib.Core.Path.{_≡_, sym, ap, _∙_}
+use mathlib.Core.Path.{_≡_, sym, ap, ap₂, _∙_}
 use mathlib.Core.List.{List, [], _∷_, zipWith}
 use Prim.Native.Nat.{ℕ, zero, suc, _+_, _-_, _*_, _/_, _%_, _^_, _<_, min}
-use native.Mathlib.Nat.{not-suc-le-zero, add-zero}
+use native.Mathlib.Nat.{not-suc-le-zero}
 use native.Mathlib.Decide.{decLt}
 use native.Mathlib.Omega.{arith}
 use lib.Bits.{and-block, or-block, xor-block, and-zero-l, or-zero-r, xor-zero-l}
@@ -11,11 +11,12 @@ use lib.Dec.{lit<}
 use lib.ListN.{length, getD, set}
 use lib.Pow.{pow-add, pow-lt}
 use Rattle.sets.specs.Sets.{intersection, union, difference, symmetricDifference, only, setOf, full, size}
-use Rattle.sets.specs.Words.{wordBits, Words, fromWords}
+use Rattle.sets.specs.Words.{wordBits, Words, fromWords, inWord}
 use Rattle.sets.proofs.Sets.{difference-none}
 use Rattle.sets.proofs.Size.{size-none}
 use Rattle.sets.proofs.Blocks.{difference-block, size-block, full-block}
 use Rattle.sets.proofs.Words.{words-head, words-rest}
+use Rattle.sets.proofs.InWord.{only-word}
 
 -- An operation on sets that works part by part works on words word by word.
 module _ (f : ℕ → ℕ → ℕ) (block : (k a b r s : ℕ) → r < 2 ^ k → s < 2 ^ k → f (a * 2 ^ k + r) (b * 2 ^ k + s) ≡ f a b * 2 ^ k + f r s) where
@@ -28,35 +29,29 @@ module _ (f : ℕ → ℕ → ℕ) (block : (k a b r s : ℕ) → r < 2 ^ k → 
       block wordBits (fromWords vs) (fromWords ws) v w (words-head h) (words-head k)
       ∙ ap (λ (x : ℕ). x * 2 ^ wordBits + f v w) (word-by-word z vs ws (omega arith) (words-rest h) (words-rest k))
 
-  -- where the empty set changes nothing, the set of one badge changes one word
-  pub in-one-word : ((a : ℕ) → f a 0 ≡ a) → (ws : List ℕ) (u : ℕ) → Words ws → u / wordBits < length ws
+  -- where the empty set changes nothing, the badges of one word change that word
+  pub in-one-word : ((a : ℕ) → f a 0 ≡ a) → (ws : List ℕ) (i x : ℕ) → Words ws → x < 2 ^ wordBits → i < length ws
+      → f (fromWords ws) (inWord i x) ≡ fromWords (set ws i (f (getD ws i 0) x))
+  unfolding fromWords inWord
+  in-one-word none [] i x h k l = absurd (not-suc-le-zero l)
+  in-one-word none (w ∷ ws) zero x h k l =
+      let e : x * 2 ^ (0 * wordBits) ≡ 0 * 2 ^ wordBits + x = omega arith in
+      rw e (block wordBits (fromWords ws) 0 w x (words-head h) k ∙ ap (λ (y : ℕ). y * 2 ^ wordBits + f w x) (none (fromWords ws)))
+  in-one-word none (w ∷ ws) (suc i) x h k l =
+      let d : suc i * wordBits ≡ i * wordBits + wordBits = omega arith in
+      let e : x * 2 ^ (suc i * wordBits) ≡ x * 2 ^ (i * wordBits) * 2 ^ wordBits + 0 = rw (d, pow-add 2 (i * wordBits) wordBits) (omega arith) in
+      rw e (block wordBits (fromWords ws) (x * 2 ^ (i * wordBits)) w 0 (words-head h) (lit< tt)
+      ∙ ap₂ (λ (y z : ℕ). y * 2 ^ wordBits + z) (in-one-word none ws i x (words-rest h) k (omega arith)) (none w))
+
+  -- and so one badge changes its word
+  pub one-badge : ((a : ℕ) → f a 0 ≡ a) → (ws : List ℕ) (u : ℕ) → Words ws → u / wordBits < length ws
       → f (fromWords ws) (only u) ≡ fromWords (set ws (u / wordBits) (f (getD ws (u / wordBits) 0) (only (u % wordBits))))
-  unfolding fromWords only
-  in-one-word none [] u h l = absurd (not-suc-le-zero l)
-  in-one-word none (w ∷ ws) u h l = go (decLt u wordBits) (in-one-word none ws (u - wordBits) (words-rest h))
-    where
-      go : Dec (u < wordBits)
-          → ((u - wordBits) / wordBits < length ws
-          → f (fromWords ws) (2 ^ (u - wordBits)) ≡ fromWords (set ws ((u - wordBits) / wordBits) (f (getD ws ((u - wordBits) / wordBits) 0) (2 ^ ((u - wordBits) % wordBits)))))
-          → f (fromWords ws * 2 ^ wordBits + w) (2 ^ u) ≡ fromWords (set (w ∷ ws) (u / wordBits) (f (getD (w ∷ ws) (u / wordBits) 0) (2 ^ (u % wordBits))))
-      go (yes m) ih =
-          let q : u / wordBits ≡ 0 = omega arith in
-          let r : u % wordBits ≡ u = omega arith in
-          let e : 2 ^ u ≡ 0 * 2 ^ wordBits + 2 ^ u = omega arith in
-          rw (q, r)
-          (ap (f (fromWords ws * 2 ^ wordBits + w)) e
-          ∙ block wordBits (fromWords ws) 0 w (2 ^ u) (words-head h) (pow-lt m)
-          ∙ ap (λ (x : ℕ). x * 2 ^ wordBits + f w (2 ^ u)) (none (fromWords ws)))
-      go (no g) ih =
-          let q : u / wordBits ≡ suc ((u - wordBits) / wordBits) = omega arith in
-          let r : u % wordBits ≡ (u - wordBits) % wordBits = omega arith in
-          let d : u ≡ u - wordBits + wordBits = omega arith in
-          let e : 2 ^ u ≡ 2 ^ (u - wordBits) * 2 ^ wordBits + 0 = ap (λ (x : ℕ). 2 ^ x) d ∙ pow-add 2 (u - wordBits) wordBits ∙ sym (add-zero _) in
-          rw (q, r)
-          (ap (f (fromWords ws * 2 ^ wordBits + w)) e
-          ∙ block wordBits (fromWords ws) (2 ^ (u - wordBits)) w 0 (words-head h) (lit< tt)
-          ∙ ap (λ (x : ℕ). f (fromWords ws) (2 ^ (u - wordBits)) * 2 ^ wordBits + x) (none w)
-          ∙ ap (λ (x : ℕ). x * 2 ^ wordBits + w) (ih (omega arith)))
+  unfolding only
+  one-badge none ws u h l =
+      let e : u / wordBits * wordBits + u % wordBits ≡ u = omega arith in
+      let m : u % wordBits < wordBits = omega arith in
+      ap (λ (v : ℕ). f (fromWords ws) (only v)) (sym e) ∙ ap (f (fromWords ws)) (sym (only-word (u / wordBits) (u % wordBits)))
+      ∙ in-one-word none ws (u / wordBits) (2 ^ (u % wordBits)) h (pow-lt m) l
 
 -- what is in both sets, in either, in the first alone, and in one of the two alone
 module _ (vs ws : List ℕ) (e : length vs ≡ length ws) (h : Words vs) (k : Words ws) where
@@ -79,10 +74,10 @@ module _ (vs ws : List ℕ) (e : length vs ≡ length ws) (h : Words vs) (k : Wo
 module _ (ws : List ℕ) (u : ℕ) (h : Words ws) (l : u / wordBits < length ws) where
   pub words-with : union (fromWords ws) (only u) ≡ fromWords (set ws (u / wordBits) (union (getD ws (u / wordBits) 0) (only (u % wordBits))))
   unfolding union
-  words-with = in-one-word union or-block or-zero-r ws u h l
+  words-with = one-badge union or-block or-zero-r ws u h l
 
   pub words-without : difference (fromWords ws) (only u) ≡ fromWords (set ws (u / wordBits) (difference (getD ws (u / wordBits) 0) (only (u % wordBits))))
-  words-without = in-one-word difference difference-block difference-none ws u h l
+  words-without = one-badge difference difference-block difference-none ws u h l
 
 -- the size is the sum of the words' sizes
 unfoldable pub sizes : List ℕ → ℕ

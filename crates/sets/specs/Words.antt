@@ -31,7 +31,7 @@ inWord i w = w * 2 ^ (i * wordBits)
 
 -- how many words of a set come before its last, and how many it has
 abbrev pub lowerWords : ℕ
-lowerWords = 0
+lowerWords = 1
 
 abbrev pub setWords : ℕ
 setWords = suc lowerWords

@@ -59,7 +59,7 @@ all-review n T ws = go (checkOf n T ws) refl
     go (refused a b) e = words-refused n T ws (full n) a b e ∙ sym e
     go (success x) e = let d = check-passed n T ws e in review-passed n T ws (full n) d (all-reviewed d) ∙ sym e
 
--- words after the first n×T make no difference to this
+-- words after the first 2×n×T make no difference to this
 pub review-rest : (n T : ℕ) (ws xs ys : List ℕ) (base : ℕ) → length ws ≡ wordsFor n T → reviewOf n T (ws ++ xs) base ≡ reviewOf n T (ws ++ ys) base
 unfolding reviewOf
 review-rest n T ws xs ys base e = ap (λ (o : Outcome (Unit {0})). andThen o (λ x. refuseIf (isnt (isReview n base)) 20 0 (success tt))) (check-rest n T ws xs ys e)

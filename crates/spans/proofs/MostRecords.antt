@@ -1,5 +1,5 @@
 -- How many records a report has. The maximal cores that start with a tick have orders that fall as their last ticks rise, and a core of order k has at
--- most one circle for each k + 1 badges. So a day of n badges and T ticks has at most T times the sum of n / (k + 1) records, and any day at most 20,736.
+-- most one circle for each k + 1 badges. So a day of n badges and T ticks has at most T times the sum of n / (k + 1) records, and any day at most 49,632.
 use mathlib.Core.Path.{_≡_, refl, subst}
 use mathlib.Core.List.{List, [], _∷_, List·Memᴰ·head, List·Memᴰ·tail}
 use mathlib.Core.Logic.{_⊎_, inl, inr, by-cases}
@@ -35,7 +35,7 @@ use Rattle.spans.proofs.GroupLists.{Shown, of-groups, group-few, group-
 use Rattle.spans.proofs.RecordLists.{circle-records-concat}
 use Rattle.spans.proofs.CircleStated.{core-span, core-inside, core-small, report-stated}
 use Rattle.spans.proofs.StatedRecords.{records-small}
-use Rattle.spans.proofs.Forms.{form-narrow}
+use Rattle.spans.proofs.Forms.{marked}
 use Rattle.spans.proofs.Decoding.{report-said}
 use Rattle.spans.proofs.MostGroups.{report-length}
 
@@ -58,14 +58,14 @@ more-orders n k (suc m) h = go (eq-or-lt-of-le h) (more-orders n k m)
     go (inl e) ih = rw e (le-refl _)
     go (inr l) ih = omega (arith, ih (omega arith))
 
-most-of-day : circlesUpTo maxBadges maxBadges ≡ 216
+most-of-day : circlesUpTo maxBadges maxBadges ≡ 517
 unfolding circlesUpTo
 most-of-day = refl
 
--- so no day has room for more records than one of 64 badges and 96 ticks
+-- so no day has room for more records than one of 128 badges and 96 ticks
 pub most-small : {n T : ℕ} → n ≤ maxBadges → T ≤ maxTicks → mostRecords n T ≤ maxRecords
 most-small {n} {T} few short =
-    let sum : circlesUpTo n n ≤ 216 = omega (arith, more-badges n few, more-orders maxBadges n maxBadges few, most-of-day) in
+    let sum : circlesUpTo n n ≤ 517 = omega (arith, more-badges n few, more-orders maxBadges n maxBadges few, most-of-day) in
     omega (arith, mul-le-mul short sum)
 
 -- ---- cores whose orders fall
@@ -151,8 +151,8 @@ module _ {n T : ℕ} {ws : List ℕ} {base : ℕ} (lent : LentDay n T ws) (r : S
   pub report-most : (least : Thresholds) → length (reportBytes n T (shownRecords n T ws base least)) ≤ maxReportBytes
   report-most least =
       let l = limits-of (lent .limits) in
-      let narrow : length (reportBytes n T (shownRecords n T ws base least)) ≤ 10 + 13 * mostRecords n T = rw (form-narrow n (l .few)) at (report-most-for least) in
-      omega (arith, narrow, most-small (l .few) (l .short))
+      let wide : recordBytes n ≤ 21 = omega (arith, marked n .most) in
+      omega (arith, report-most-for least, mul-le-mul wide (most-small (l .few) (l .short)))
 
   -- the bytes of a report say its records: their number fits four bytes, and their members those of their sets
   pub shown-said : (least : Thresholds) → reportRecords (reportBytes n T (shownRecords n T ws base least)) ≡ shownRecords n T ws base least

@@ -4,7 +4,7 @@ use mathlib.Core.Path.{_≡_, sym, ap, _∙_}
 use mathlib.Core.Bool.{true}
 use mathlib.Core.List.{List, _++_}
 use mathlib.Core.Logic.{⊎-elim, by-cases}
-use Prim.Native.Nat.{ℕ, suc, _*_, _≤_, _<_, suc-le-suc}
+use Prim.Native.Nat.{ℕ, suc, _*_, _^_, _≤_, _<_, suc-le-suc}
 use native.Mathlib.Nat.{lt-of-lt-of-le}
 use native.Mathlib.Decide.{decLt}
 use native.Mathlib.Omega.{arith}
@@ -85,7 +85,7 @@ fewer-head n T xs ys base first last h f r = record {
       in-span n ys first last u v (x .0) (λ t p q. rw (f t u (omega arith) (of-full n u (r .at u i))) at (x .1 t p q));
 }
 
--- words that differ only after the first n×T are such
+-- words that differ only after the first 2×n×T are such
 pub same-rest : (n T : ℕ) (ws xs ys : List ℕ) → length ws ≡ wordsFor n T → SameDay n T (ws ++ xs) (ws ++ ys)
 same-rest n T ws xs ys e t u h k = neighbours-append n T ws xs t u e h k ∙ sym (neighbours-append n T ws ys t u e h k)
 
@@ -118,8 +118,13 @@ span-set-none n ws first last u l =
     (λ p. set-at-sets (spanRows n ws first last) u (rw span-length p) ∙ span-row-none n ws first last u l)
     (λ p. set-at-out (spanWords n ws first last) u (rw span-words-length (omega arith)))
 
-pub span-words-fit : (n : ℕ) (ws : List ℕ) (first last : ℕ) → n ≤ capacity → Words (spanWords n ws first last)
+-- the neighbours of a badge on a span are badges below n
+pub span-lt : (n : ℕ) (ws : List ℕ) (first last u : ℕ) → spanNeighbours n ws first last u < 2 ^ n
 unfolding spanNeighbours
+span-lt n ws first last u = set-lt n (throughout n ws first last u)
+
+-- so the words of the rows are words
+pub span-words-fit : (n : ℕ) (ws : List ℕ) (first last : ℕ) → n ≤ capacity → Words (spanWords n ws first last)
 span-words-fit n ws first last w = words-fit (spanRows n ws first last) (λ u k. by-cases (decLt u n)
-    (λ p. rw (span-row n ws first last u w p) (lt-of-lt-of-le (set-lt n (throughout n ws first last u)) (pow-mono w)))
+    (λ p. rw (span-row n ws first last u w p) (lt-of-lt-of-le (span-lt n ws first last u) (pow-mono w)))
     (λ p. rw (span-row-none n ws first last u (omega arith)) (lit< tt)))

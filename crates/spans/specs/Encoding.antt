@@ -30,10 +30,10 @@ abbrev pub mostRecords : ℕ → ℕ → ℕ
 mostRecords n T = T * circlesUpTo n n
 
 abbrev pub maxRecords : ℕ
-maxRecords = 20736
+maxRecords = 49632
 
 abbrev pub maxReportBytes : ℕ
-maxReportBytes = 269578
+maxReportBytes = 1042282
 
 -- The marks of a report, of its groups, of a plan and of its parts, and the bytes of a set.
 pub record Form : Type 0 where

@@ -2,8 +2,10 @@
 use mathlib.Core.Path.{_≡_, refl, sym, ap, _∙_, subst}
 use mathlib.Core.Bool.{Bool, true, false}
 use mathlib.Core.List.{List, [], _++_, append-assoc, append-nil}
-use Prim.Native.Nat.{ℕ, suc, _+_, _-_, _*_, _^_, _≤_, _<_}
+use Prim.Native.Nat.{ℕ, suc, _+_, _-_, _^_, _≤_, _<_}
+use mathlib.Core.Logic.{by-cases}
 use native.Mathlib.Numerals.{add-one}
+use native.Mathlib.Decide.{decLt}
 use native.Mathlib.Omega.{arith}
 use lib.ListN.{length, take, drop, length-append, length-drop}
 use lib.Seq.{take-all}
@@ -15,7 +17,7 @@ use Rattle.log.specs.Buffers.{place}
 use Rattle.log.proofs.Delivering.{take-place, length-place}
 use Rattle.text.specs.Decimal.{decimal}
 use Rattle.text.specs.Listing.{field, memberList}
-use Rattle.text.specs.Making.{lineRoom, digitRoom, Spells, Appends, Makes}
+use Rattle.text.specs.Making.{lineRoom, digitRoom, memberRoom, Spells, Appends, Makes}
 use Rattle.text.proofs.Digits.{decimal-short}
 
 -- nothing is appended
@@ -74,19 +76,23 @@ pub member-one : (b : Bool) {bytes : List ℕ} {i j : ℕ} {x y : List ℕ} → 
 unfolding keepIf
 member-one b e a = rw e a
 
--- a badge below 100, after a space, has at most three bytes
-pub member-length : (b : Bool) (u : ℕ) → u < 100 → length (keepIf b (field (ascii " ") u)) ≤ 3
+-- there is room for one badge more, after a space
+pub member-length : (b : Bool) (u : ℕ) → u < capacity → memberRoom u + length (keepIf b (field (ascii " ") u)) ≤ memberRoom (u + 1)
 unfolding keepIf
-member-length true u h = field-length (ascii " ") 1 u h
+member-length true u h = by-cases (decLt u 10)
+    (λ l. omega (arith, field-length (ascii " ") 0 u (omega arith)))
+    (λ l. by-cases (decLt u 100)
+    (λ m. omega (arith, field-length (ascii " ") 1 u (omega arith)))
+    (λ m. omega (arith, field-length (ascii " ") 2 u (omega arith))))
 member-length false u h = omega arith
 
--- A loop that appends the members of a set: those below u are appended, in at most three bytes each.
+-- A loop that appends the members of a set: those below u are appended, and there is room for them.
 abbrev pub memberPart : ℕ → ℕ → List ℕ
 memberPart s u = keepIf (has s u) (field (ascii " ") u)
 
 pub record MembersBelow (s u at at′ : ℕ) (line line′ : List ℕ) : Type 0 where
   pub few : u ≤ capacity
-  pub short : at′ ≤ at + 3 * u
+  pub short : at′ ≤ at + memberRoom u
   pub appended : Appends (concatBelow u (memberPart s)) at at′ line line′
 
 module _ (s : ℕ) {at : ℕ} {line : List ℕ} where
@@ -97,7 +103,7 @@ module _ (s : ℕ) {at : ℕ} {line : List ℕ} where
   pub members-more : {u i j : ℕ} {x y : List ℕ} → u < capacity → MembersBelow s u at i line x → Appends (memberPart s u) i j x y → MembersBelow s (u + 1) at j line y
   members-more {u} {i} {j} {x} {y} h m a = record {
     few = omega arith;
-    short = omega (arith, m .short, a .end, member-length (has s u) u (omega arith));
+    short = omega (arith, m .short, a .end, member-length (has s u) u h);
     appended = appends-more (memberPart s) u (m .appended) a;
   }
 

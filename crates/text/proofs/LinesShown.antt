@@ -1,24 +1,18 @@
 -- Laws of the lines that an answer shows: how many there are, and what each is, by the bytes of the report.
-use mathlib.Core.Path.{_≡_, refl, ap, _∙_}
+use mathlib.Core.Path.{_≡_, refl, sym, ap, _∙_}
 use mathlib.Core.List.{List, [], _∷_, map}
 use Prim.Native.Nat.{ℕ, zero, suc, _+_, _-_, _*_, _/_, _^_, _≤_, _<_}
-use native.Mathlib.Nat.{not-suc-le-zero, zero-add, suc-add, mul-zero, mul-suc, mul-assoc, pow-suc, mul-le-mul-left, mul-div-le}
+use native.Mathlib.Nat.{le-refl, not-suc-le-zero, zero-add, suc-add, mul-zero, mul-suc, mul-assoc, pow-suc, mul-le-mul-left, mul-div-le}
 use native.Mathlib.Omega.{arith}
-use lib.Dec.{eqb}
 use lib.ListN.{length, getD, take, drop}
 use lib.Seq.{take-nil, getD-drop, drop-drop}
 use lib.Pow.{pow-add, pow-mono}
-use Rattle.sets.specs.Ascii.{ascii}
 use Rattle.sets.specs.Bytes.{fromLittleEndian}
-use Rattle.sets.specs.Members.{capacity}
-use Rattle.sets.specs.Tables.{keepIf}
-use Rattle.sets.specs.Words.{wordBits}
-use Rattle.sets.proofs.Blocks.{bit-low}
-use Rattle.sets.proofs.Concat.{concat-same}
+use Rattle.sets.specs.Words.{wordBits, fromWords}
 use Rattle.records.specs.Outcomes.{Outcome, refused, success}
 use Rattle.spans.specs.SpanCores.{SpanCore}
 use Rattle.spans.specs.Encoding.{formOf, coreBytes, recordBytes, headBadges, decodeCore, decodeCores}
-use Rattle.text.specs.Listing.{field, headLine, memberList, groupLine, refusalLine, reportLines}
+use Rattle.text.specs.Listing.{headLine, groupLine, refusalLine, reportLines}
 use Rattle.text.specs.Calls.{shownLines}
 use Rattle.text.specs.Making.{lineCount}
 
@@ -79,7 +73,7 @@ module _ (size : ℕ) (report : List ℕ) {w : ℕ} (same : w ≡ formOf (headBa
       let m : r * suc (i - 1) ≡ r * i = ap (λ (x : ℕ). r * x) e in
       omega (arith, l, k, m, mul-suc r (i - 1), mul-le-mul-left r k, mul-div-le (size - 10) r, mul-le-mul-left r l)
 
--- A set of one word holds the lower 8 of a set's bytes, and the others say no badge that it could hold.
+-- the number that bytes say, in two parts
 from-split : (v k : ℕ) (xs : List ℕ) → fromLittleEndian (take (v + k) xs) ≡ fromLittleEndian (take k (drop v xs)) * 256 ^ v + fromLittleEndian (take v xs)
 unfolding fromLittleEndian
 from-split zero k xs = rw zero-add (omega arith)
@@ -88,20 +82,26 @@ from-split (suc v) k (x ∷ xs) =
     let e : fromLittleEndian (take k (drop v xs)) * 256 ^ suc v ≡ fromLittleEndian (take k (drop v xs)) * 256 ^ v * 256 = rw (pow-suc, mul-assoc) in
     rw suc-add (omega (arith, from-split v k xs, e))
 
-lower-members : (w : ℕ) (xs : List ℕ) → 8 ≤ w → memberList (fromLittleEndian (take w xs)) ≡ memberList (fromLittleEndian (take 8 xs))
-unfolding memberList
-lower-members w xs h =
+-- A set of w bytes is in two words: the lower says its first 8, the upper the others.
+two-words-said : (w : ℕ) (xs : List ℕ) → 8 ≤ w → fromWords (fromLittleEndian (take 8 xs) ∷ fromLittleEndian (take (w - 8) (drop 8 xs)) ∷ []) ≡ fromLittleEndian (take w xs)
+unfolding fromWords
+two-words-said w xs h =
     let e : w ≡ 8 + (w - 8) = omega arith in
     let split : fromLittleEndian (take w xs) ≡ fromLittleEndian (take (w - 8) (drop 8 xs)) * 256 ^ 8 + fromLittleEndian (take 8 xs) = ap (λ (k : ℕ). fromLittleEndian (take k xs)) e ∙ from-split 8 (w - 8) xs in
-    rw split (concat-same capacity _ _ (λ u l. ap (λ (b : ℕ). keepIf (eqb b 1) (field (ascii " ") u)) (bit-low wordBits (fromLittleEndian (take (w - 8) (drop 8 xs))) (fromLittleEndian (take 8 xs)) u l)))
+    omega (arith, split)
 
 -- so the line of the record at a place is known by the bytes of the report
-pub record-at : (report : List ℕ) (at w : ℕ) {order first last members : ℕ} → 8 ≤ w → order ≡ getD report (at + 2) 0 → first ≡ getD report (at + 3) 0 → last ≡ getD report (at + 4) 0
-    → members ≡ fromLittleEndian (take 8 (drop (at + 5) report)) → groupLine (decodeCore w (drop at report)) ≡ groupLine (record { order = order; first = first; last = last; members = members })
-unfolding decodeCore groupLine
-record-at report at w l e f g h = rw (e, f, g, h, getD-drop at report 2 0, getD-drop at report 3 0, getD-drop at report 4 0, drop-drop 5 at report, lower-members w (drop (at + 5) report) l)
+pub record-at : (report : List ℕ) (at w : ℕ) {order first last low high members : ℕ} → 8 ≤ w → order ≡ getD report (at + 2) 0 → first ≡ getD report (at + 3) 0 → last ≡ getD report (at + 4) 0
+    → low ≡ fromLittleEndian (take 8 (drop (at + 5) report)) → high ≡ fromLittleEndian (take (w - 8) (drop (at + 13) report)) → members ≡ fromWords (low ∷ high ∷ [])
+    → groupLine (decodeCore w (drop at report)) ≡ groupLine (record { order = order; first = first; last = last; members = members })
+unfolding decodeCore
+record-at report at w {high = high} {members = members} l e f g h j k =
+    let after : at + 5 + 8 ≡ at + 13 = omega arith in
+    let second : high ≡ fromLittleEndian (take (w - 8) (drop 8 (drop (at + 5) report))) = j ∙ ap (λ (bs : List ℕ). fromLittleEndian (take (w - 8) bs)) (sym (drop-drop 8 (at + 5) report ∙ ap (λ (i : ℕ). drop i report) after)) in
+    let set : members ≡ fromLittleEndian (take w (drop (at + 5) report)) = k ∙ rw (h, second) (two-words-said w (drop (at + 5) report) l) in
+    rw (e, f, g, set, getD-drop at report 2 0, getD-drop at report 3 0, getD-drop at report 4 0, drop-drop 5 at report)
 
--- A loop over eight bytes, the highest first: the number that those from byte i on say.
+-- A loop over so many bytes, eight at most, the highest first: the number that those from byte i on say.
 word-step : (k j : ℕ) (bytes : List ℕ) → fromLittleEndian (take (suc k) (drop j bytes)) ≡ fromLittleEndian (take k (drop (suc j) bytes)) * 256 + getD bytes j 0
 unfolding fromLittleEndian
 word-step k zero [] = rw (take-nil {A = ℕ} k)
@@ -109,37 +109,39 @@ word-step k zero (b ∷ bs) = omega arith
 word-step k (suc j) [] = rw (take-nil {A = ℕ} k)
 word-step k (suc j) (b ∷ bs) = word-step k j bs
 
-pub record WordFrom (bytes : List ℕ) (at i word : ℕ) : Type 0 where
-  pub few : i ≤ 8
-  pub room : word < 2 ^ (64 - 8 * i)
-  pub says : word ≡ fromLittleEndian (take (8 - i) (drop (at + i) bytes))
+pub record WordFrom (bytes : List ℕ) (at size i word : ℕ) : Type 0 where
+  pub few : i ≤ size
+  pub room : word < 2 ^ (8 * (size - i))
+  pub says : word ≡ fromLittleEndian (take (size - i) (drop (at + i) bytes))
 
-module _ {bytes : List ℕ} {at : ℕ} where
-  pub word-none : WordFrom bytes at 8 0
+module _ {bytes : List ℕ} {at size : ℕ} where
+  pub word-none : WordFrom bytes at size size 0
   unfolding fromLittleEndian
-  word-none = record { few = omega arith; room = omega arith; says = refl }
+  word-none =
+      let e : size - size ≡ 0 = omega arith in
+      record { few = le-refl size; room = rw e (omega arith); says = rw e }
 
-  module _ {i word b : ℕ} (w : WordFrom bytes at i word) (l : 1 ≤ i) (c : b < 256) where
-    longer : word * 256 + b < 2 ^ (64 - 8 * (i - 1))
+  module _ {i word b : ℕ} (w : WordFrom bytes at size i word) (l : 1 ≤ i) (c : b < 256) where
+    longer : word * 256 + b < 2 ^ (8 * (size - (i - 1)))
     longer =
-        let e : 64 - 8 * (i - 1) ≡ (64 - 8 * i) + 8 = omega (arith, w .few) in
-        rw (e, pow-add 2 (64 - 8 * i) 8) (omega (arith, w .room))
+        let e : 8 * (size - (i - 1)) ≡ 8 * (size - i) + 8 = omega (arith, w .few) in
+        rw (e, pow-add 2 (8 * (size - i)) 8) (omega (arith, w .room))
 
     -- one byte more, and it fits a word
-    pub word-fits : word * 256 + b < 2 ^ 64
-    word-fits = let e : 64 - 8 * (i - 1) ≤ 64 = omega arith in omega (arith, longer, pow-mono e)
+    pub word-fits : size ≤ 8 → word * 256 + b < 2 ^ wordBits
+    word-fits h = let e : 8 * (size - (i - 1)) ≤ wordBits = omega arith in omega (arith, longer, pow-mono e)
 
-    pub word-more : b ≡ getD bytes (at + (i - 1)) 0 → WordFrom bytes at (i - 1) (word * 256 + b)
+    pub word-more : b ≡ getD bytes (at + (i - 1)) 0 → WordFrom bytes at size (i - 1) (word * 256 + b)
     word-more f =
-        let h : suc (8 - i) ≡ 8 - (i - 1) = omega (arith, w .few) in
+        let h : suc (size - i) ≡ size - (i - 1) = omega (arith, w .few) in
         let j : suc (at + (i - 1)) ≡ at + i = omega arith in
-        let step : fromLittleEndian (take (8 - (i - 1)) (drop (at + (i - 1)) bytes)) ≡ fromLittleEndian (take (8 - i) (drop (at + i) bytes)) * 256 + getD bytes (at + (i - 1)) 0
-        = rw (h, j) at (word-step (8 - i) (at + (i - 1)) bytes) in
+        let step : fromLittleEndian (take (size - (i - 1)) (drop (at + (i - 1)) bytes)) ≡ fromLittleEndian (take (size - i) (drop (at + i) bytes)) * 256 + getD bytes (at + (i - 1)) 0
+        = rw (h, j) at (word-step (size - i) (at + (i - 1)) bytes) in
         record { few = omega (arith, w .few); room = longer; says = rw (step, ← f, ← w .says) }
 
-  pub word-done : {i word : ℕ} → WordFrom bytes at i word → i ≤ 0 → word ≡ fromLittleEndian (take 8 (drop at bytes))
+  pub word-done : {i word : ℕ} → WordFrom bytes at size i word → i ≤ 0 → word ≡ fromLittleEndian (take size (drop at bytes))
   word-done {i} {word} w h =
       let z : i ≡ 0 = omega arith in
-      let e : 8 - i ≡ 8 = omega arith in
+      let e : size - i ≡ size = omega arith in
       let f : at + i ≡ at = omega arith in
       w .says ∙ rw (e, f)

@@ -1,5 +1,5 @@
--- What prepare leaves, lent 6,144 words or more: the report of the log's day where the buffer holds it, and refusal 9 where it does not. In a buffer
--- of 65,536 bytes it shows the lines of the log's listing.
+-- What prepare leaves, lent words enough for the log's day: its report where the buffer holds it, and refusal 9 where it does not; and refusal 8 with fewer words.
+-- With 12,288 words and a buffer of 65,536 bytes it shows the lines of the log's listing.
 use mathlib.Core.Path.{_≡_, refl, sym, ap, _∙_}
 use mathlib.Core.Bool.{true}
 use mathlib.Core.List.{List, [], _∷_, _++_, append-assoc, append-nil}
@@ -18,7 +18,7 @@ use Rattle.sets.specs.Words.{wordBits}
 use Rattle.sets.proofs.Sets.{sub-refl}
 use Rattle.records.specs.declared.record.Record.{Record}
 use Rattle.records.specs.declared.record.Record.the-variants.{End}
-use Rattle.records.specs.Limits.{wordsFor, maxWords}
+use Rattle.records.specs.Limits.{wordsFor}
 use Rattle.records.specs.Records.{encode}
 use Rattle.records.specs.Outcomes.{Outcome, refused, success}
 use Rattle.records.specs.Judging.{judge}
@@ -26,11 +26,11 @@ use Rattle.records.specs.Meaning.{badgesOf, ticksOf, inContact}
 use Rattle.records.specs.Verdicts.{valuesOf}
 use Rattle.records.proofs.Outcomes.{refused-success}
 use Rattle.records.proofs.Accepting.{accepted-of}
-use Rattle.records.proofs.WithinLimits.{limits-of, words-most}
+use Rattle.records.proofs.WithinLimits.{limits-of}
 use Rattle.days.specs.Days.{dayOf, LentDay}
 use Rattle.days.specs.Calls.{Read}
 use Rattle.days.proofs.Days.{day-length}
-use Rattle.days.proofs.ReadCall.{read-refused, read-success}
+use Rattle.days.proofs.ReadCall.{read-refused, read-few, read-success}
 use Rattle.log.specs.Buffers.{Delivered}
 use Rattle.thresholds.specs.Ranges.{plain, inRange}
 use Rattle.spans.specs.SpanCores.{SpanCore, Mem}
@@ -45,7 +45,7 @@ use Rattle.groups.specs.Calls.{reportOf}
 use Rattle.groups.proofs.ReportTheorems.{report-succeeds, report-measures}
 use Rattle.promises.proofs.ReadTheorems.{accepted-day}
 use Rattle.promises.proofs.WordsAfter.{report-rest}
-use Rattle.text.specs.Listing.{refusalLine, reportLines, listingRoom, listedLines, listedGroups, judgedLines}
+use Rattle.text.specs.Listing.{refusalLine, reportLines, listingRoom, listingWords, listedLines, listedGroups, dayLines, judgedLines}
 use Rattle.text.specs.Calls.{Prepared, prepareOf, shownLines}
 use Rattle.text.proofs.PrepareCall.{prepare-refused, prepare-read}
 
@@ -101,7 +101,7 @@ module _ (log : List ℕ) (rs : List Record) (e : judge log ≡ success rs) wher
   unfolding judge dayOf
   accepted-lent = record { limits = accepted-of 0 log rs e .limits; enough = le-of-eq (sym (day-length n T (inContact rs))); day = accepted-day log rs e }
 
-  module _ (words report : List ℕ) (h : maxWords ≤ length words) where
+  module _ (words report : List ℕ) (h : wordsFor n T ≤ length words) where
     abbrev left : List ℕ
     left = dayOf rs ++ drop (wordsFor n T) words
 
@@ -111,7 +111,7 @@ module _ (log : List ℕ) (rs : List Record) (e : judge log ≡ success rs) wher
     accepted-reported d f =
         let limits = limits-of (accepted-lent .limits) in
         let m : n ≡ min n capacity = omega (arith, limits .few) in
-        let read = read-success log words rs e (omega (arith, words-most n T limits)) in
+        let read = read-success log words rs e h in
         let same = report-rest n T (dayOf rs) (drop (wordsFor n T) words) [] (full n) (day-length n T (inContact rs)) plain report ∙ ap (λ (ws : List ℕ). reportOf n T ws (full n) plain report) (append-nil (dayOf rs)) in
         prepare-read log words report (valuesOf rs) (ap (λ (x : Read). x .answer) read) left (sym (ap (λ (x : Read). x .words) read)) (ap full m)
         ∙ ap (λ (x : Delivered). record { answer = x .answer; words = left; report = x .buffer }) (same ∙ f)
@@ -141,16 +141,31 @@ module _ (log : List ℕ) (rs : List Record) (e : judge log ≡ success rs) wher
         (λ l. rw (accepted-measured l) (sym (listed-long n T (listedGroups rs) (omega arith))))
         (λ l. rw (accepted-made (omega arith), report-shown n T (listedGroups rs) (drop (length bytes) report) (omega (arith, limits-of (accepted-lent .limits) .few)) (records-small (sub-refl (full n)) (report-stated accepted-lent (sub-refl (full n))))) (sym (listed-fits n T (listedGroups rs) (omega arith))))
 
+  -- with fewer words than its day takes
+  pub accepted-few : (words report : List ℕ) → length words < wordsFor n T → prepareOf log words report .answer ≡ refused 8 0
+  accepted-few words report h = ap (λ (x : Prepared). x .answer) (prepare-refused log words report 8 0 (ap (λ (x : Read). x .answer) (read-few log words rs e h)))
+
+  -- the lines of its day, where there are words for it, and where not
+  pub day-wide : listingWords < wordsFor n T → dayLines rs ≡ refusalLine 8 0 ∷ []
+  unfolding dayLines
+  day-wide h = rw (dayLines, lt-ltb listingWords (wordsFor n T) h)
+
+  pub day-fits : wordsFor n T ≤ listingWords → dayLines rs ≡ listedLines n T (listedGroups rs)
+  unfolding dayLines
+  day-fits h = rw (dayLines, le-ltb listingWords (wordsFor n T) h)
+
 module _ (log words report : List ℕ) where
   -- a log that is refused is refused alike
   pub refused-alike : (number offset : ℕ) → judge log ≡ refused number offset → prepareOf log words report .answer ≡ refused number offset
   refused-alike number offset e = ap (λ (x : Prepared). x .answer) (prepare-refused log words report number offset (ap (λ (x : Read). x .answer) (read-refused log words number offset e)))
 
-  -- In a buffer of 65,536 bytes, what prepare leaves shows the lines of the log.
-  pub prepared-lines : maxWords ≤ length words → length report ≡ listingRoom → shownLines (prepareOf log words report .answer) (prepareOf log words report .report) ≡ judgedLines (judge log)
+  -- With 12,288 words and in a buffer of 65,536 bytes, what prepare leaves shows the lines of the log.
+  pub prepared-lines : length words ≡ listingWords → length report ≡ listingRoom → shownLines (prepareOf log words report .answer) (prepareOf log words report .report) ≡ judgedLines (judge log)
   unfolding judgedLines shownLines
   prepared-lines h k = go (judge log) refl
     where
       go : (o : Outcome (List Record)) → judge log ≡ o → shownLines (prepareOf log words report .answer) (prepareOf log words report .report) ≡ judgedLines o
       go (refused number offset) e = rw (refused-alike number offset e)
-      go (success rs) e = accepted-lines log rs e words report h k
+      go (success rs) e = by-cases (decLt listingWords (wordsFor (badgesOf rs) (ticksOf rs)))
+          (λ l. rw (accepted-few log rs e words report (omega arith)) (sym (day-wide log rs e l)))
+          (λ l. accepted-lines log rs e words report (omega arith) k ∙ sym (day-fits log rs e (omega arith)))

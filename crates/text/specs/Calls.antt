@@ -1,10 +1,11 @@
 -- What the public functions answer and leave in the slices that were lent.
 use mathlib.Core.List.{List, [], _∷_}
 use mathlib.Core.Path.{_≡_}
-use Prim.Native.Nat.{ℕ, _-_, _/_, _<_}
+use Prim.Native.Nat.{ℕ, _-_, _/_, _≤_, _<_}
 use lib.ListN.{length, getD, drop}
 use Rattle.sets.specs.Sets.{full}
 use Rattle.records.specs.declared.record.Record.{Record}
+use Rattle.records.specs.Limits.{wordsFor}
 use Rattle.records.specs.Outcomes.{Outcome, refused, success}
 use Rattle.records.specs.Judging.{judge}
 use Rattle.records.specs.Meaning.{badgesOf, ticksOf}
@@ -40,8 +41,15 @@ shownLines (refused number offset) report = refusalLine number offset ∷ []
 shownLines (success size) report =
     reportLines (headBadges report) (getD report 3 0) (decodeCores (formOf (headBadges report) .setBytes) ((size - 10) / recordBytes (headBadges report)) (drop 4 report))
 
--- When prepare is refused by 9: the log is accepted, and its report has more bytes than there is room for.
-pub record Longer (log : List ℕ) (room : ℕ) : Type 0 where
+-- When prepare is refused by 8: the log is accepted, and its day takes more words than are lent.
+pub record Wider (log : List ℕ) (words : ℕ) : Type 0 where
   pub records : List Record
   pub accepted : judge log ≡ success records
+  pub more : words < wordsFor (badgesOf records) (ticksOf records)
+
+-- When it is refused by 9: the log is accepted, there are words enough for its day, and its report has more bytes than there is room for.
+pub record Longer (log : List ℕ) (words room : ℕ) : Type 0 where
+  pub records : List Record
+  pub accepted : judge log ≡ success records
+  pub enough : wordsFor (badgesOf records) (ticksOf records) ≤ words
   pub bytes : room < length (reportBytes (badgesOf records) (ticksOf records) (listedGroups records))

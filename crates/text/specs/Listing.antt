@@ -10,6 +10,7 @@ use Rattle.sets.specs.Sets.{has, full}
 use Rattle.sets.specs.Members.{capacity}
 use Rattle.sets.specs.Tables.{concatBelow, keepIf}
 use Rattle.records.specs.declared.record.Record.{Record}
+use Rattle.records.specs.Limits.{wordsFor}
 use Rattle.records.specs.Outcomes.{Outcome, refused, success}
 use Rattle.records.specs.Judging.{judge}
 use Rattle.records.specs.Meaning.{badgesOf, ticksOf}
@@ -53,14 +54,22 @@ listingRoom = 65536
 unfoldable pub listedLines : ℕ → ℕ → List SpanCore → List (List ℕ)
 listedLines n T groups = elim (ltb listingRoom (length (reportBytes n T groups))) [ true ↦ refusalLine 9 0 ∷ [] | false ↦ reportLines n T groups ]
 
+-- And it has so many words: "The listing program now has 12,288 words, so no day of up to 64 badges gets 8, and prints refusal 8 for a day that needs more."
+abbrev pub listingWords : ℕ
+listingWords = 12288
+
 -- the groups of a log's listing: each circle is one, and all n badges are under review
 unfoldable pub listedGroups : List Record → List SpanCore
 listedGroups rs = shownRecords (badgesOf rs) (ticksOf rs) (dayOf rs) (full (badgesOf rs)) plain
 
+-- the lines of an accepted log for whose day there are words, and the one line of refusal 8 for one that needs more
+unfoldable pub dayLines : List Record → List (List ℕ)
+dayLines rs = elim (ltb listingWords (wordsFor (badgesOf rs) (ticksOf rs))) [ true ↦ refusalLine 8 0 ∷ [] | false ↦ listedLines (badgesOf rs) (ticksOf rs) (listedGroups rs) ]
+
 -- the lines of a log, by what judging it comes to
 unfoldable pub judgedLines : Outcome (List Record) → List (List ℕ)
 judgedLines (refused number offset) = refusalLine number offset ∷ []
-judgedLines (success rs) = listedLines (badgesOf rs) (ticksOf rs) (listedGroups rs)
+judgedLines (success rs) = dayLines rs
 
 -- lines end to end, and the listing of a log: its text in bytes
 unfoldable pub joined : List (List ℕ) → List ℕ

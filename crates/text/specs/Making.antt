@@ -1,7 +1,7 @@
 -- What the functions that make a line promise.
 use mathlib.Core.List.{List, _++_}
 use mathlib.Core.Path.{_≡_}
-use Prim.Native.Nat.{ℕ, suc, _+_, _-_, _/_, _≤_, _<_}
+use Prim.Native.Nat.{ℕ, suc, _+_, _-_, _*_, _/_, _≤_, _<_}
 use lib.ListN.{length, take, drop}
 use Rattle.records.specs.Outcomes.{Outcome, refused, success}
 use Rattle.spans.specs.Encoding.{recordBytes, headBadges}
@@ -9,10 +9,18 @@ use Rattle.text.specs.Decimal.{decimal}
 
 -- room for any line, and for the digits of any number
 abbrev pub lineRoom : ℕ
-lineRoom = 320
+lineRoom = 512
 
 abbrev pub digitRoom : ℕ
 digitRoom = 20
+
+-- the bytes of the longest line of a listing: that of a group of 128 badges, of an order of three digits, on ticks of two
+abbrev pub longestLine : ℕ
+longestLine = 434
+
+-- room for the badges below u, each after a space: a badge has a second digit from 10 on, and a third from 100 on
+abbrev pub memberRoom : ℕ → ℕ
+memberRoom u = 2 * u + (u - 10) + (u - 100)
 
 -- the most lines of a listing: the first, and one for each of 5,040 records of 13 bytes, since 65,536 bytes hold no more of them and 10 others; and
 -- fewer where records have 21 bytes

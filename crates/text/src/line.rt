@@ -4,13 +4,14 @@ ghost use Prim.Native.Nat.{_+_, _≤_};
 ghost use lib.ListN.{length};
 ghost use Rattle.sets.specs.Ascii.{ascii};
 ghost use Rattle.sets.specs.Sets.{has};
-ghost use Rattle.sets.specs.Members.{members};
+ghost use Rattle.sets.specs.Members.{capacity, members};
 ghost use Rattle.sets.specs.Tables.{keepIf};
 ghost use Rattle.text.specs.Listing.{field, headLine, memberList, groupLine, refusalLine};
-ghost use Rattle.text.specs.Making.{lineRoom, Appends, Makes};
+ghost use Rattle.text.specs.Making.{lineRoom, memberRoom, Appends, Makes};
 use crate::fields::append;
 use crate::fields::append_field;
 use sets::BadgeSet;
+use sets::CAPACITY;
 
 // Appends a badge, after a space, if it is a member.
 fn append_member(line: &mut [u8], at: usize, set: BadgeSet, u: usize) -> usize
@@ -25,12 +26,12 @@ fn append_member(line: &mut [u8], at: usize, set: BadgeSet, u: usize) -> usize
 
 // Appends the members of a set, rising, each after a space.
 fn append_members(line: &mut [u8], at: usize, set: BadgeSet) -> usize
-    requires { ⌜ at + 213 ≤ length (now line) ⌝ }
+    requires { ⌜ at + memberRoom capacity + 21 ≤ length (now line) ⌝ }
     ensures { λ r. ⌜ Appends (memberList (members set)) at r (now (line .entry)) (now (line .exit)) ⌝ }
-    ensures { λ r. ⌜ r ≤ at + 192 ⌝ }
+    ensures { λ r. ⌜ r ≤ at + memberRoom capacity ⌝ }
 {
     let mut so_far = at;
-    for u in 0..64 {
+    for u in 0..CAPACITY {
         let appended = append_member(line, so_far, set, u);
         so_far = appended;
     }

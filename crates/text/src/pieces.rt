@@ -15,15 +15,15 @@ pub struct Piece {
 }
 
 // Fills a buffer with as many whole lines as it holds, from a place on, of those that prepare's answer shows with the report that it left.
-// Bytes after them are never touched. No line has more than 320 bytes: with a buffer of 320 or more each call gives a line until there is
-// none, and then 0 bytes.
+// Bytes after them are never touched. No line of a listing has more than 434 bytes: with a buffer of 434 or more each call gives a line until
+// there is none, and then 0 bytes.
 pub fn lines(answer: Written, report: &[u8], from: usize, buffer: &mut [u8]) -> Piece
     ensures next { λ r. ⌜ r .next ≡ pieceOf (shownLines (writtenOutcome answer) (now (report .entry))) from (now (buffer .entry)) .next ⌝ }
     ensures bytes { λ r. ⌜ r .bytes ≡ pieceOf (shownLines (writtenOutcome answer) (now (report .entry))) from (now (buffer .entry)) .bytes ⌝ }
     ensures leaves { λ _. ⌜ now (buffer .exit) ≡ pieceOf (shownLines (writtenOutcome answer) (now (report .entry))) from (now (buffer .entry)) .buffer ⌝ }
 {
     let count = line_count(answer, report);
-    let mut line = [0u8; 320];
+    let mut line = [0u8; 512];
     let mut next = from;
     let mut at: usize = 0;
     while next < count {

@@ -28,13 +28,13 @@ fn byte_at(bytes: &[u8], at: usize) -> u8
     bytes[at]
 }
 
-// The number that eight bytes say, the lowest first.
-fn word_at(bytes: &[u8], at: usize) -> u64
-    requires { ⌜ at + 8 < 2 ^ 64 ⌝ }
-    ensures { λ r. ⌜ r ≡ fromLittleEndian (take 8 (drop at (now (bytes .entry)))) ⌝ }
+// The number that so many bytes say, eight at most, the lowest first.
+fn word_at(bytes: &[u8], at: usize, size: usize) -> u64
+    requires { ⌜ (size ≤ 8) × (at + size < 2 ^ 64) ⌝ }
+    ensures { λ r. ⌜ r ≡ fromLittleEndian (take size (drop at (now (bytes .entry)))) ⌝ }
 {
     let mut word: u64 = 0;
-    let mut i: usize = 8;
+    let mut i = size;
     while 0 < i {
         i -= 1;
         word = word * 256 + byte_at(bytes, at + i) as u64;
@@ -50,15 +50,18 @@ fn width_of(report: &[u8]) -> usize
     set_bytes(widen(byte_at(report, 2)))
 }
 
-// Makes the line of the group whose record, with a set of so many bytes, stands at a place of a report. A set of one word holds the lower 8 bytes.
+// Makes the line of the group whose record, with a set of so many bytes, stands at a place of a report: its first 8 bytes say the lower word of the set, and
+// those that follow, if there are any, the upper one.
 fn record_line(report: &[u8], at: usize, width: usize, line: &mut [u8]) -> usize
-    requires { ⌜ (8 ≤ width) × (at + coreBytes width < 2 ^ 64) × (length (now line) ≡ lineRoom) ⌝ }
+    requires { ⌜ (8 ≤ width) × (width ≤ 16) × (at + coreBytes width < 2 ^ 64) × (length (now line) ≡ lineRoom) ⌝ }
     ensures { λ r. ⌜ Makes (groupLine (decodeCore width (drop at (now (report .entry))))) r (now (line .exit)) ⌝ }
 {
     let order = byte_at(report, at + 2);
     let first = byte_at(report, at + 3);
     let last = byte_at(report, at + 4);
-    let members = BadgeSet::from_word(word_at(report, at + 5));
+    let low = word_at(report, at + 5, 8);
+    let high = word_at(report, at + 13, width - 8);
+    let members = BadgeSet::from_words(low, high);
     group_line(order, first, last, members, line)
 }
 

@@ -1,4 +1,4 @@
--- "A report may now be given least length in ticks (1 to 96), least order (1 to 63) and least members (2 to 64)."
+-- "A report may now be given least length in ticks (1 to 96), least order (1 to 63) and least members (2 to 64)." The last two limits "become 127 and 128".
 use mathlib.Core.Bool.{Bool}
 use Prim.Native.Nat.{ℕ, _-_}
 use lib.Dec.{leb}

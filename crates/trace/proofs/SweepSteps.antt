@@ -5,9 +5,9 @@ use mathlib.Core.Logic.{by-cases, ⊎-elim}
 use Prim.Native.Nat.{ℕ, suc, _+_, _-_, _*_, _≤_, _<_}
 use native.Mathlib.Decide.{ℕ-discrete}
 use native.Mathlib.Omega.{arith}
-use lib.ListN.{length, getD, take, drop, set, replicate, length-drop, length-set, length-replicate, getD-replicate}
-use lib.Seq.{getD-set-same, getD-set-other, length-take-le}
-use Rattle.sets.specs.Sets.{intersection, only, smallest}
+use lib.ListN.{length, getD, set, replicate, length-set, length-replicate, getD-replicate}
+use lib.Seq.{getD-set-same, getD-set-other}
+use Rattle.sets.specs.Sets.{only}
 use Rattle.sets.specs.Members.{capacity, insert}
 use Rattle.sets.specs.Tables.{piecewise}
 use Rattle.sets.specs.Words.{places, setAt}
@@ -16,10 +16,9 @@ use Rattle.sets.proofs.Tables.{piecewise-in, piecewise-out}
 use Rattle.days.specs.Days.{neighbours}
 use Rattle.days.proofs.Days.{tick-fits}
 use Rattle.chains.specs.Traces.{never, noSource}
-use Rattle.chains.specs.Sweep.{sourceFrom, ticksFirst, passing, newly, tickAfter, sourceAfter, traceBytes}
+use Rattle.chains.specs.Sweep.{ticksFirst, passing, newly, tickAfter, sourceAfter, traceBytes}
 use Rattle.chains.specs.Judging.{StartOfDay}
-use Rattle.chains.proofs.Spreading.{spread-same}
-use Rattle.chains.proofs.TicksFirst.{first-length, tick-at, source-at, first-is}
+use Rattle.chains.proofs.TicksFirst.{first-length, first-is}
 use Rattle.trace.specs.Steps.{PassedTick}
 
 -- before the first tick the index alone is there, with s

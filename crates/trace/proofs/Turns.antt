@@ -1,9 +1,9 @@
 -- The loop over the badges that were not reached before a tick: what is known after each turn.
 use mathlib.Core.Path.{_≡_, refl, sym, ap, _∙_, subst}
-use mathlib.Core.Bool.{Bool, true, false, not}
+use mathlib.Core.Bool.{Bool, true, false}
 use mathlib.Core.List.{List}
 use mathlib.Core.Logic.{_⊎_, inl, inr, by-cases, ⊎-elim}
-use Prim.Native.Nat.{ℕ, _+_, _≤_, _<_}
+use Prim.Native.Nat.{ℕ, _+_, _<_}
 use native.Mathlib.Decide.{ℕ-discrete}
 use native.Mathlib.Omega.{arith}
 use lib.Dec.{eqb}
@@ -13,14 +13,14 @@ use borrow.Author.Tests.{eqb-true, eqb-false}
 use Rattle.sets.specs.Sets.{bit, In, Sub, intersection, union, difference, only, full, smallest}
 use Rattle.sets.specs.Members.{capacity, insert}
 use Rattle.sets.specs.Tables.{piecewise}
-use Rattle.sets.proofs.Sets.{not-in-none, some, in-intersection, of-intersection-left, of-intersection-right, in-union-left, in-union-right, of-union, in-difference, of-difference, in-only, of-only, lt-of-members, in-full, of-full, ext, insert-in, sub-refl}
+use Rattle.sets.proofs.Sets.{not-in-none, some, in-intersection, of-intersection-left, of-intersection-right, in-union-left, in-union-right, of-union, in-difference, of-difference, in-only, of-only, in-full, of-full, ext, insert-in, sub-refl}
 use Rattle.sets.proofs.Tables.{piecewise-in, piecewise-out, piecewise-same}
-use Rattle.sets.proofs.Walks.{smallest-unseen, unseen-less}
+use Rattle.sets.proofs.Walks.{unseen-less}
 use Rattle.chains.specs.Traces.{tickIn, sourceIn}
 use Rattle.chains.specs.Sweep.{spread, sourceFrom, ticksFirst}
 use Rattle.chains.proofs.Spreading.{Touched, spread-keeps, spread-in, spread-of}
 use Rattle.chains.proofs.TicksFirst.{first-length, tick-at, source-at, first-is}
-use Rattle.trace.specs.Steps.{reachedBy, shown, PassedTick}
+use Rattle.trace.specs.Steps.{reachedBy, shown, newIn, Turned, PassedTick}
 
 -- what a turn leaves, where noSource who passes on is in contact with the badge, and where somebody is
 module _ (sources : ℕ) where
@@ -76,9 +76,8 @@ module _ (n u t source : ℕ) (l : List ℕ) (h : u < n) (long : length l ≡ n 
   )
 
 module _ (n : ℕ) (row : ℕ → ℕ) (t passing : ℕ) where
-  -- those who are reached in the tick, and in none before
   abbrev new : ℕ
-  new = difference (spread n row passing) passing
+  new = newIn n row passing
 
   -- tick and source of each badge after the tick
   abbrev tickThen : (ℕ → ℕ) → ℕ → ℕ
@@ -86,12 +85,6 @@ module _ (n : ℕ) (row : ℕ → ℕ) (t passing : ℕ) where
 
   abbrev sourceThen : (ℕ → ℕ) → ℕ → ℕ
   sourceThen source = piecewise new (sourceFrom row passing) source
-
-  -- what is known while some badges are unseen: those who are reached are there but for the unseen, and so are ticks and sources
-  pub record Turned (unseen reached : ℕ) (before trace : List ℕ) : Type 0 where
-    pub within : Sub unseen (difference (full n) passing)
-    pub spreads : reached ≡ difference (spread n row passing) unseen
-    pub shows : (tick source : ℕ → ℕ) → before ≡ ticksFirst n tick source → trace ≡ ticksFirst n (piecewise unseen tick (tickThen tick)) (piecewise unseen source (sourceThen source))
 
   -- before the first turn
   abbrev pub all : ℕ
@@ -105,7 +98,7 @@ module _ (n : ℕ) (row : ℕ → ℕ) (t passing : ℕ) where
       (λ i. sym (piecewise-in all g _ u i))
       (λ o. sym (piecewise-out all g _ u o ∙ piecewise-out new f g u (seen-before u l o)))
 
-  pub turned-none : (before : List ℕ) → Turned all passing before before
+  pub turned-none : (before : List ℕ) → Turned n row t passing all passing before before
   turned-none before = record {
     within = sub-refl all;
     spreads = ext _ _
@@ -120,15 +113,8 @@ module _ (n : ℕ) (row : ℕ → ℕ) (t passing : ℕ) where
       kept u o (inl i) = i
       kept u o (inr h) = by-cases (ℕ-discrete (bit passing u) 1) (λ i. i) (λ p. absurd (o (in-difference (full n) passing u (in-full n u (h .below)) p)))
 
-  -- a badge at hand is one of the tick, and a set holds it
-  pub turned-at : {unseen reached u : ℕ} {before trace : List ℕ} {empty : Bool} → n ≤ capacity → Turned unseen reached before trace → empty ≡ eqb unseen 0 → not empty ≡ true → u ≡ smallest capacity unseen
-      → In unseen u × (u < n)
-  turned-at {u = u} few w e f g =
-      let i = smallest-unseen (w .within) (lt-of-members capacity all (λ v j. omega (arith, of-full n v (of-difference (full n) passing v j .0)))) e f g in
-      (i .0, of-full n u (of-difference (full n) passing u (w .within .at u (i .0)) .0))
-
   -- one turn more
-  module _ (u : ℕ) {unseen reached sources : ℕ} {before trace : List ℕ} (w : Turned unseen reached before trace) (i : In unseen u) (e : sources ≡ intersection (row u) passing) where
+  module _ (u : ℕ) {unseen reached sources : ℕ} {before trace : List ℕ} (w : Turned n row t passing unseen reached before trace) (i : In unseen u) (e : sources ≡ intersection (row u) passing) where
     fresh : (u < n) × (In passing u → ⊥)
     fresh = let d = of-difference (full n) passing u (w .within .at u i) in (of-full n u (d .0), d .1)
 
@@ -146,7 +132,7 @@ module _ (n : ℕ) (row : ℕ → ℕ) (t passing : ℕ) where
           (piecewise-in unseen g _ u i ∙ sym (turn-here unseen u g _ ∙ piecewise-out new f g u (λ j. stays (of-difference _ passing u j .0)))))
           (λ q. turn-other unseen u g _ v q)
 
-      turned-over : Turned (difference unseen (only u)) reached before trace
+      turned-over : Turned n row t passing (difference unseen (only u)) reached before trace
       turned-over = record {
         within = less;
         spreads = w .spreads ∙ ext _ _
@@ -182,7 +168,7 @@ module _ (n : ℕ) (row : ℕ → ℕ) (t passing : ℕ) where
           (λ q. in-union-right _ (only u) v (subst (In (only u)) (sym q) (in-only u)))
           (λ q. in-union-left _ (only u) v (in-difference _ unseen v (d .0) (λ k. d .1 (in-difference unseen (only u) v k (λ o. q (of-only u v o)))))))
 
-      turned-to : Turned (difference unseen (only u)) (insert reached u) before (set (set trace u t) (n + u) (smallest capacity sources))
+      turned-to : Turned n row t passing (difference unseen (only u)) (insert reached u) before (set (set trace u t) (n + u) (smallest capacity sources))
       unfolding sourceFrom
       turned-to = record { within = less; spreads = insert-in reached u small ∙ ap (λ (x : ℕ). union x (only u)) (w .spreads) ∙ with-u; shows = showing }
         where
@@ -208,15 +194,15 @@ module _ (n : ℕ) (row : ℕ → ℕ) (t passing : ℕ) where
               long : length trace ≡ n + n
               long = ap length was ∙ first-length n _ _
 
-    pub turned-more : {next : ℕ} {out : List ℕ} → u < capacity → next ≡ reachedBy sources reached u → out ≡ shown n sources u t trace → Turned (difference unseen (only u)) next before out
+    pub turned-more : {next : ℕ} {out : List ℕ} → u < capacity → next ≡ reachedBy sources reached u → out ≡ shown n sources u t trace → Turned n row t passing (difference unseen (only u)) next before out
     turned-more {next} {out} small f g = go (eqb sources 0) refl
       where
-        go : (b : Bool) → eqb sources 0 ≡ b → Turned (difference unseen (only u)) next before out
+        go : (b : Bool) → eqb sources 0 ≡ b → Turned n row t passing (difference unseen (only u)) next before out
         go true b = rw (f ∙ reached-none sources reached u b, g ∙ shown-none sources n u t trace b) (turned-over b)
         go false b = rw (f ∙ reached-some sources reached u b, g ∙ shown-some sources n u t trace b) (turned-to b small)
 
   -- after the last
-  pub turned-done : {unseen reached : ℕ} {before trace : List ℕ} → unseen ≡ 0 → Turned unseen reached before trace → PassedTick n row t passing reached before trace
+  pub turned-done : {unseen reached : ℕ} {before trace : List ℕ} → unseen ≡ 0 → Turned n row t passing unseen reached before trace → PassedTick n row t passing reached before trace
   turned-done {unseen} {reached} {before} {trace} z w = record { spreads = whole; shows = λ tick source e. shows tick source (w .shows tick source e) }
     where
       none : (u : ℕ) → In unseen u → ⊥

@@ -3,6 +3,7 @@
 mod answers;
 
 ghost use mathlib.Core.Path.{_≡_};
+ghost use Rattle.sets.specs.Members.{setOfTwo};
 ghost use Rattle.days.specs.Calls.{readOf};
 ghost use Rattle.receivers.specs.Joining.{joinOf};
 ghost use Rattle.log.specs.Calls.{tidyOf, writeOf};
@@ -95,71 +96,75 @@ pub extern "C" fn ward_trace(
     *answer = trace_answer(written);
 }
 
-// groups::core_numbers: the badges under review are a set, bit u for badge u.
+// groups::core_numbers: the badges under review are a set in two numbers, bit u of the first for badge u, and of the second for badge 64 + u.
 #[no_mangle]
 pub extern "C" fn ward_core_numbers(
     words: &[u64],
     badges: usize,
     ticks: usize,
-    review: u64,
+    review_low: u64,
+    review_high: u64,
     first: usize,
     last: usize,
     out: &mut [u8],
     answer: &mut [u64; 5],
 )
-    ensures answer { λ _. ⌜ now (answer .exit) ≡ writtenAnswer (coreNumbersOf badges ticks (now (words .entry)) review first last (now (out .entry)) .answer) ⌝ }
-    ensures leaves { λ _. ⌜ now (out .exit) ≡ coreNumbersOf badges ticks (now (words .entry)) review first last (now (out .entry)) .buffer ⌝ }
+    ensures answer { λ _. ⌜ now (answer .exit) ≡ writtenAnswer (coreNumbersOf badges ticks (now (words .entry)) (setOfTwo «review_low» «review_high») first last (now (out .entry)) .answer) ⌝ }
+    ensures leaves { λ _. ⌜ now (out .exit) ≡ coreNumbersOf badges ticks (now (words .entry)) (setOfTwo «review_low» «review_high») first last (now (out .entry)) .buffer ⌝ }
 {
-    let reviewed = BadgeSet::from_word(review);
+    let reviewed = BadgeSet::from_words(review_low, review_high);
     let written = groups::core_numbers(words, badges, ticks, reviewed, first, last, out);
     *answer = group_answer(written);
 }
 
-// groups::report: the badges under review are a set, as before, and its thresholds are handed over as the least length in ticks, the least order and the least number of members.
+// groups::report: the badges under review are a set, as before. Its thresholds are handed over as the least length in ticks, the least order and the least number of members.
 #[no_mangle]
 pub extern "C" fn ward_report(
     words: &[u64],
     badges: usize,
     ticks: usize,
-    review: u64,
+    review_low: u64,
+    review_high: u64,
     length: usize,
     order: usize,
     members: usize,
     out: &mut [u8],
     answer: &mut [u64; 5],
 )
-    ensures answer { λ _. ⌜ now (answer .exit) ≡ writtenAnswer (reportOf badges ticks (now (words .entry)) review (leastOf length order members) (now (out .entry)) .answer) ⌝ }
-    ensures leaves { λ _. ⌜ now (out .exit) ≡ reportOf badges ticks (now (words .entry)) review (leastOf length order members) (now (out .entry)) .buffer ⌝ }
-    ensures groups { λ _. ⌜ Reported badges ticks (now (words .entry)) review (leastOf length order members) (reportOf badges ticks (now (words .entry)) review (leastOf length order members) (now (out .entry)) .answer) (now (out .exit)) ⌝ }
+    ensures answer { λ _. ⌜ now (answer .exit) ≡ writtenAnswer (reportOf badges ticks (now (words .entry)) (setOfTwo «review_low» «review_high») (leastOf length order members) (now (out .entry)) .answer) ⌝ }
+    ensures leaves { λ _. ⌜ now (out .exit) ≡ reportOf badges ticks (now (words .entry)) (setOfTwo «review_low» «review_high») (leastOf length order members) (now (out .entry)) .buffer ⌝ }
+    ensures groups { λ _. ⌜ Reported badges ticks (now (words .entry)) (setOfTwo «review_low» «review_high») (leastOf length order members) (reportOf badges ticks (now (words .entry)) (setOfTwo «review_low» «review_high») (leastOf length order members) (now (out .entry)) .answer) (now (out .exit)) ⌝ }
 {
     let least = Thresholds {
         ticks: length,
         order,
         members,
     };
-    let reviewed = BadgeSet::from_word(review);
+    let reviewed = BadgeSet::from_words(review_low, review_high);
     let written = groups::report(words, badges, ticks, reviewed, least, out);
     *answer = group_answer(written);
 }
 
-// groups::plan: the badges under review and the query are sets, bit u for badge u.
+// groups::plan: the badges under review and the query are sets, each in two numbers.
 #[no_mangle]
 pub extern "C" fn ward_plan(
     words: &[u64],
     badges: usize,
     ticks: usize,
-    review: u64,
-    query: u64,
+    review_low: u64,
+    review_high: u64,
+    query_low: u64,
+    query_high: u64,
     parts: usize,
     out: &mut [u8],
     answer: &mut [u64; 5],
 )
-    ensures answer { λ _. ⌜ now (answer .exit) ≡ writtenAnswer (planOf badges ticks (now (words .entry)) review query parts (now (out .entry)) .answer) ⌝ }
-    ensures leaves { λ _. ⌜ now (out .exit) ≡ planOf badges ticks (now (words .entry)) review query parts (now (out .entry)) .buffer ⌝ }
-    ensures shown { λ _. ⌜ PlanShown badges ticks (now (words .entry)) review query parts (planOf badges ticks (now (words .entry)) review query parts (now (out .entry)) .answer) (now (out .exit)) ⌝ }
+    ensures answer { λ _. ⌜ now (answer .exit) ≡ writtenAnswer (planOf badges ticks (now (words .entry)) (setOfTwo «review_low» «review_high») (setOfTwo «query_low» «query_high») parts (now (out .entry)) .answer) ⌝ }
+    ensures leaves { λ _. ⌜ now (out .exit) ≡ planOf badges ticks (now (words .entry)) (setOfTwo «review_low» «review_high») (setOfTwo «query_low» «query_high») parts (now (out .entry)) .buffer ⌝ }
+    ensures shown { λ _. ⌜ PlanShown badges ticks (now (words .entry)) (setOfTwo «review_low» «review_high») (setOfTwo «query_low» «query_high») parts (planOf badges ticks (now (words .entry)) (setOfTwo «review_low» «review_high») (setOfTwo «query_low» «query_high») parts (now (out .entry)) .answer) (now (out .exit)) ⌝ }
 {
-    let reviewed = BadgeSet::from_word(review);
-    let set = BadgeSet::from_word(query);
+    let reviewed = BadgeSet::from_words(review_low, review_high);
+    let set = BadgeSet::from_words(query_low, query_high);
     let written = groups::plan(words, badges, ticks, reviewed, set, parts, out);
     *answer = group_answer(written);
 }

@@ -1,13 +1,17 @@
 //! Safe calls of the ward contact engine. Each function lends its slices to one call of the static library and turns its answer of
 //! five numbers into a `Result`. What each call answers and leaves in the slices is proved; `include/ward.h` says it in words.
 //!
+//! A day has 1 to 128 badges and 1 to 96 ticks. A set of badges is a `u128` with bit u for badge u; in day words it takes two words, lower badges
+//! first: the set of those in contact with badge u in tick t is in word 2(t×n+u) and the next one. So a day of n badges and T ticks takes 2×n×T
+//! words, and one of up to 64 badges has 0 in every second word. Words after those are never read or changed.
+//!
 //! ```
 //! let log = b"BH\x03\x02CT\x01\x00\x00\x01ED\x01\x00\x00\x00";
 //! let mut words = [0u64; ward::WORDS];
 //! let day = ward::read(log, &mut words)?;
 //! assert_eq!((day.badges, day.ticks, day.contacts), (3, 2, 1));
 //!
-//! let mut report = [0u8; ward::REPORT_BYTES];
+//! let mut report = vec![0u8; ward::REPORT_BYTES];
 //! let size = ward::report(&words, day.badges, day.ticks, ward::all_badges(day.badges), ward::Thresholds::default(), &mut report)?;
 //! assert_eq!(&report[..4], b"RH\x03\x02");
 //! assert_eq!(&report[4..17], b"GR\x01\x00\x01\x03\x00\x00\x00\x00\x00\x00\x00");
@@ -19,20 +23,20 @@ mod refusal;
 
 pub use refusal::{Refusal, Refused};
 
-/// Words that hold any day: 64 badges, 96 ticks.
-pub const WORDS: usize = 6144;
+/// Words that hold any day: two for each of 128 badges in each of 96 ticks.
+pub const WORDS: usize = 24576;
 /// Work words that are enough to join any logs: those of a day for each of 4.
 pub const JOIN_WORK_WORDS: usize = 4 * WORDS;
 /// Bytes that hold any log, tidy or not.
 pub const LOG_BYTES: usize = 48010;
-/// Bytes that hold any trace: a tick and a source for each of 64 badges.
-pub const TRACE_BYTES: usize = 128;
-/// Bytes that hold any report: `report_bytes` of 64 badges and 96 ticks. Most reports are much shorter.
-pub const REPORT_BYTES: usize = 269578;
+/// Bytes that hold any trace: a tick and a source for each of 128 badges.
+pub const TRACE_BYTES: usize = 256;
+/// Bytes that hold any report: `report_bytes` of 128 badges and 96 ticks. Most reports are much shorter.
+pub const REPORT_BYTES: usize = 1042282;
 /// Bytes that hold any plan.
-pub const PLAN_BYTES: usize = 1267;
+pub const PLAN_BYTES: usize = 2043;
 /// Bytes that hold the core numbers of any span.
-pub const CORE_NUMBERS: usize = 64;
+pub const CORE_NUMBERS: usize = 128;
 
 /// In a trace: the tick of a badge that is never reached, and the source of a badge that has none. It is neither a tick nor a badge of any day.
 pub const NONE: u8 = 255;
@@ -52,8 +56,8 @@ pub struct Joined {
     pub ticks: usize,
 }
 
-/// What a group needs for a report to keep it: so many ticks or more, 1 to 96; an order of so much or more, 1 to 63; so many members or more, 2 to 64,
-/// counted in each group and not in the core that it is of. The ranges are the same for every day. By default a report keeps every group.
+/// What a group needs for a report to keep it: so many ticks or more, 1 to 96; an order of so much or more, 1 to 127; so many members or more, 2 to
+/// 128, counted in each group and not in the core that it is of. The ranges are the same for every day. By default a report keeps every group.
 ///
 /// ```
 /// assert_eq!(ward::Thresholds::default(), ward::Thresholds { ticks: 1, order: 1, members: 2 });
@@ -71,28 +75,29 @@ impl Default for Thresholds {
     }
 }
 
-/// The set of all badges of a day, to review them all: bit u for badge u. 64 badges and more give every bit.
+/// The set of all badges of a day, to review them all: bit u for badge u. 128 badges and more give every bit.
 ///
 /// ```
 /// assert_eq!([0, 1, 5].map(ward::all_badges), [0, 0b1, 0b11111]);
-/// assert_eq!([64, 65, usize::MAX].map(ward::all_badges), [u64::MAX; 3]);
+/// assert_eq!([64, 65].map(ward::all_badges), [u64::MAX.into(), u128::from(u64::MAX) + (1 << 64)]);
+/// assert_eq!([128, 129, usize::MAX].map(ward::all_badges), [u128::MAX; 3]);
 /// assert_eq!(ward::all_badges(5) & !(1 << 3), 0b10111); // all of five badges but badge 3
 /// ```
-pub const fn all_badges(badges: usize) -> u64 {
-    if badges < 64 { (1 << badges) - 1 } else { u64::MAX }
+pub const fn all_badges(badges: usize) -> u128 {
+    if badges < 128 { (1 << badges) - 1 } else { u128::MAX }
 }
 
-/// Room for any report of a day of this size: 10 bytes, and 13 for each of as many records as it may have. Of each order k a report shows at most as
-/// many cores as the day has ticks, since none of their spans contains another, and their circles have k + 1 members or more. More than 64 badges
-/// count as 64, and more than 96 ticks as 96.
+/// Room for any report of a day of this size: 10 bytes, and 13 for each of as many records as it may have, or 21 where there are more than 64 badges.
+/// Of each order k a report shows at most as many cores as the day has ticks, since none of their spans contains another, and their circles have k +
+/// 1 members or more. More than 128 badges count as 128, and more than 96 ticks as 96.
 ///
 /// ```
 /// assert_eq!(ward::report_bytes(5, 3), 10 + 13 * 3 * (5 / 2 + 5 / 3 + 5 / 4 + 5 / 5));
-/// assert_eq!(ward::report_bytes(64, 96), ward::REPORT_BYTES);
+/// assert_eq!(ward::report_bytes(128, 96), ward::REPORT_BYTES);
 /// assert_eq!(ward::report_bytes(usize::MAX, usize::MAX), ward::REPORT_BYTES);
 ///
 /// // hardly any report is so long: lend what is at hand, and so much only where that is refused
-/// let words = [0b10, 0b01, 0, 0, 0b10, 0b01]; // two badges in contact in the first and in the third of three ticks
+/// let words = ward::words_of(&[0b10, 0b01, 0, 0, 0b10, 0b01]); // two badges in contact in the first and in the third of three ticks
 /// let ask = |report: &mut [u8]| ward::report(&words, 2, 3, ward::all_badges(2), ward::Thresholds::default(), report);
 /// let mut report = vec![0; 30];
 /// let mut answer = ask(&mut report);
@@ -103,13 +108,29 @@ pub const fn all_badges(badges: usize) -> u64 {
 /// assert_eq!((answer, report.len()), (Ok(36), 49));
 /// ```
 pub const fn report_bytes(badges: usize, ticks: usize) -> usize {
-    let (badges, ticks) = (if badges < 64 { badges } else { 64 }, if ticks < 96 { ticks } else { 96 });
+    let (badges, ticks) = (if badges < 128 { badges } else { 128 }, if ticks < 96 { ticks } else { 96 });
     let (mut circles, mut members) = (0, 2);
     while members <= badges {
         circles += badges / members;
         members += 1;
     }
-    10 + 13 * ticks * circles
+    let record = if badges <= 64 { 13 } else { 21 };
+    10 + record * ticks * circles
+}
+
+/// The words of a day that is given as a set for each badge in each tick, tick after tick: two words a set, lower badges first.
+///
+/// ```
+/// assert_eq!(ward::words_of(&[0b10, 0b01]), [0b10, 0, 0b01, 0]);
+/// assert_eq!(ward::words_of(&[1 << 63, 1 << 64]), [1 << 63, 0, 0, 1]);
+/// ```
+pub fn words_of(sets: &[u128]) -> Vec<u64> {
+    sets.iter().flat_map(|set| halves(*set)).collect()
+}
+
+/// The two words of a set, lower badges first.
+fn halves(set: u128) -> [u64; 2] {
+    [set as u64, (set >> 64) as u64]
 }
 
 type Answer = [u64; 5];
@@ -146,7 +167,8 @@ extern "C" {
         words_len: usize,
         badges: usize,
         ticks: usize,
-        review: u64,
+        review_low: u64,
+        review_high: u64,
         first: usize,
         last: usize,
         out: *mut u8,
@@ -158,7 +180,8 @@ extern "C" {
         words_len: usize,
         badges: usize,
         ticks: usize,
-        review: u64,
+        review_low: u64,
+        review_high: u64,
         least_ticks: usize,
         least_order: usize,
         least_members: usize,
@@ -171,8 +194,10 @@ extern "C" {
         words_len: usize,
         badges: usize,
         ticks: usize,
-        review: u64,
-        query: u64,
+        review_low: u64,
+        review_high: u64,
+        query_low: u64,
+        query_high: u64,
         parts: usize,
         out: *mut u8,
         out_len: usize,
@@ -182,13 +207,18 @@ extern "C" {
 
 // A slice's pointer is aligned and not null, even where it is empty, and slices borrowed mutably overlap no other: what the calls ask for.
 
-/// Reads a log into day words: word t×n+u has bit v set exactly when u and v are in contact in tick t. A refused call changes no word.
+/// Reads a log into day words: the set in word 2(t×n+u) and the next one has bit v exactly when u and v are in contact in tick t. A refused call
+/// changes no word.
 ///
 /// ```
 /// let mut words = [0u64; ward::WORDS];
 /// let day = ward::read(b"BH\x03\x01CT\x02\x00\x00\x00ED\x01\x00\x00\x00", &mut words)?;
 /// assert_eq!(day, ward::Day { badges: 3, ticks: 1, contacts: 1 });
-/// assert_eq!(words[..3], [0b100, 0, 0b001]); // badges 0 and 2 are in contact
+/// assert_eq!(words[..6], [0b100, 0, 0, 0, 0b001, 0]); // badges 0 and 2 are in contact
+///
+/// let day = ward::read(b"BH\x41\x01CT\x3f\x40\x00\x00ED\x01\x00\x00\x00", &mut words)?;
+/// assert_eq!(day.badges, 65);
+/// assert_eq!(words[2 * 63..2 * 65], [0, 1, 1 << 63, 0]); // badge 63 is in contact with badge 64, and that with badge 63
 /// # Ok::<(), ward::Refused>(())
 /// ```
 pub fn read(log: &[u8], words: &mut [u64]) -> Result<Day, Refused> {
@@ -198,23 +228,23 @@ pub fn read(log: &[u8], words: &mut [u64]) -> Result<Day, Refused> {
     Ok(Day { badges: answer[2] as usize, ticks: answer[3] as usize, contacts: answer[4] as usize })
 }
 
-/// Joins the logs of from 2 to 4 receivers of one shift into day words. The logs lie end to end, and `lengths` has how many bytes each takes. Word t×n+u has
-/// bit v set exactly when at least `quorum` of the logs, from 1 to all of them, have u and v in contact in tick t; a log that says so twice counts once.
-/// There must be n×T work words for each log, and they are left 0. A refused call changes no word.
+/// Joins the logs of from 2 to 4 receivers of one shift into day words. The logs lie end to end, and `lengths` has how many bytes each takes. The set
+/// in word 2(t×n+u) and the next one has bit v exactly when at least `quorum` of the logs, from 1 to all of them, have u and v in contact in tick t;
+/// a log that says so twice counts once. There must be 2×n×T work words for each log, and they are left 0. A refused call changes no word.
 ///
 /// ```
 /// let both = *b"BH\x03\x01CT\x00\x01\x00\x00CT\x01\x02\x00\x00ED\x02\x00\x00\x00"; // 0 with 1, and 1 with 2
 /// let one = *b"BH\x03\x01CT\x02\x01\x00\x00CT\x01\x02\x00\x00ED\x02\x00\x00\x00"; // 1 with 2, said twice
 /// let (logs, lengths) = ([both, one].concat(), [both.len(), one.len()]);
-/// let (mut words, mut work) = ([7u64; ward::WORDS], [7u64; ward::JOIN_WORK_WORDS]);
+/// let (mut words, mut work) = (vec![7u64; ward::WORDS], vec![7u64; ward::JOIN_WORK_WORDS]);
 ///
 /// let day = ward::join(&logs, &lengths, 1, &mut words, &mut work)?;
 /// assert_eq!(day, ward::Joined { badges: 3, ticks: 1 });
-/// assert_eq!(words[..4], [0b010, 0b101, 0b010, 7]); // what one of them heard
-/// assert_eq!(work[..7], [0, 0, 0, 0, 0, 0, 7]);
+/// assert_eq!(words[..7], [0b010, 0, 0b101, 0, 0b010, 0, 7]); // what one of them heard
+/// assert_eq!(work[..13], [0, 0, 0, 0, 0, 0, 0, 0, 0, 0, 0, 0, 7]);
 ///
 /// ward::join(&logs, &lengths, 2, &mut words, &mut work)?;
-/// assert_eq!(words[..4], [0b000, 0b100, 0b010, 7]); // what both heard
+/// assert_eq!(words[..7], [0b000, 0, 0b100, 0, 0b010, 0, 7]); // what both heard
 ///
 /// let refused = ward::join(&logs, &lengths, 3, &mut words, &mut work).unwrap_err();
 /// assert_eq!(refused.refusal, ward::Refusal::InvalidReceivers);
@@ -260,7 +290,7 @@ pub fn tidy(log: &[u8], work: &mut [u64], out: &mut [u8]) -> Result<usize, Refus
 /// Writes day words as their tidy log, and gives the number of bytes.
 ///
 /// ```
-/// let words = [0b10, 0b01]; // two badges in contact, in one tick
+/// let words = ward::words_of(&[0b10, 0b01]); // two badges in contact, in one tick
 /// let mut log = [0u8; ward::LOG_BYTES];
 /// let size = ward::write(&words, 2, 1, &mut log)?;
 /// assert_eq!(&log[..size], b"BH\x02\x01CT\x00\x01\x00\x00ED\x01\x00\x00\x00");
@@ -281,7 +311,7 @@ pub fn write(words: &[u64], badges: usize, ticks: usize, out: &mut [u8]) -> Resu
 ///
 /// ```
 /// use ward::NONE;
-/// let words = [0b010, 0b001, 0, 0, 0b100, 0b010]; // badges 0 and 1 in contact in tick 0, and badges 1 and 2 in tick 1
+/// let words = ward::words_of(&[0b010, 0b001, 0, 0, 0b100, 0b010]); // badges 0 and 1 in contact in tick 0, and badges 1 and 2 in tick 1
 /// let mut trace = [0u8; ward::TRACE_BYTES];
 ///
 /// // met in rising ticks: badge 0 reaches badge 1 in tick 0, which reaches badge 2 in tick 1
@@ -293,7 +323,7 @@ pub fn write(words: &[u64], badges: usize, ticks: usize, out: &mut [u8]) -> Resu
 /// assert_eq!(trace[..6], [NONE, 1, 0, NONE, 2, NONE]);
 ///
 /// // both in one tick: nobody but the index passes on in the tick in which it was reached
-/// ward::trace(&[0b010, 0b101, 0b010], 3, 1, 0, 0, &mut trace)?;
+/// ward::trace(&ward::words_of(&[0b010, 0b101, 0b010]), 3, 1, 0, 0, &mut trace)?;
 /// assert_eq!(trace[..6], [0, 0, NONE, NONE, 0, NONE]);
 ///
 /// let refused = ward::trace(&words, 3, 2, 3, 0, &mut trace).unwrap_err();
@@ -306,7 +336,7 @@ pub fn write(words: &[u64], badges: usize, ticks: usize, out: &mut [u8]) -> Resu
 ///
 /// ```
 /// // in tick 0 badge 3 is in contact with badges 1 and 2, and in tick 1 badge 0 with both of these: of its two possible sources it shows the smaller
-/// let words = [0, 0b1000, 0b1000, 0b0110, 0b0110, 0b0001, 0b0001, 0];
+/// let words = ward::words_of(&[0, 0b1000, 0b1000, 0b0110, 0b0110, 0b0001, 0b0001, 0]);
 /// let mut trace = [0u8; ward::TRACE_BYTES];
 /// let size = ward::trace(&words, 4, 2, 3, 0, &mut trace)?;
 /// let (ticks, sources) = trace[..size].split_at(4);
@@ -324,7 +354,7 @@ pub fn trace(words: &[u64], badges: usize, ticks: usize, index: usize, start: us
 /// under review, a set with bit u for badge u; a badge that is not under review has 0.
 ///
 /// ```
-/// let words = [0b110, 0b101, 0b011]; // three badges in contact, in one tick
+/// let words = ward::words_of(&[0b110, 0b101, 0b011]); // three badges in contact, in one tick
 /// let mut numbers = [0u8; ward::CORE_NUMBERS];
 /// assert_eq!(ward::core_numbers(&words, 3, 1, ward::all_badges(3), 0, 0, &mut numbers), Ok(3));
 /// assert_eq!(numbers[..3], [2, 2, 2]);
@@ -337,9 +367,10 @@ pub fn trace(words: &[u64], badges: usize, ticks: usize, index: usize, start: us
 /// assert_eq!(refused.to_string(), "refused 20 at 0: no badge is under review, or one that the day does not have");
 /// # Ok::<(), ward::Refused>(())
 /// ```
-pub fn core_numbers(words: &[u64], badges: usize, ticks: usize, review: u64, first: usize, last: usize, out: &mut [u8]) -> Result<usize, Refused> {
+pub fn core_numbers(words: &[u64], badges: usize, ticks: usize, review: u128, first: usize, last: usize, out: &mut [u8]) -> Result<usize, Refused> {
     let mut answer = [0; 5];
-    unsafe { ward_core_numbers(words.as_ptr(), words.len(), badges, ticks, review, first, last, out.as_mut_ptr(), out.len(), &mut answer) };
+    let [low, high] = halves(review);
+    unsafe { ward_core_numbers(words.as_ptr(), words.len(), badges, ticks, low, high, first, last, out.as_mut_ptr(), out.len(), &mut answer) };
     written(answer)
 }
 
@@ -349,9 +380,12 @@ pub fn core_numbers(words: &[u64], badges: usize, ticks: usize, review: u64, fir
 /// those among the badges under review, a set with bit u for badge u, and which are maximal is judged among these cores alone, before they are split.
 /// [`REPORT_BYTES`] are enough for any report, and [`report_bytes`] says how many are for a smaller day.
 ///
+/// The bytes are RH, n and T; for each group GR, its order, first and last tick and its members in 8 bytes, the lowest first; ED and the number of
+/// groups in 4 bytes. Where n is above 64, the marks are RW and GW, and members have 16 bytes.
+///
 /// ```
 /// // two teams of three, each together all day, that never met: one core of order 2, two groups
-/// let words = [0b000110, 0b000101, 0b000011, 0b110000, 0b101000, 0b011000].repeat(4);
+/// let words = ward::words_of(&[0b000110, 0b000101, 0b000011, 0b110000, 0b101000, 0b011000].repeat(4));
 /// let (everyone, mut report) = (ward::all_badges(6), [0u8; ward::report_bytes(6, 4)]);
 /// let size = ward::report(&words, 6, 4, everyone, ward::Thresholds::default(), &mut report)?;
 /// assert_eq!(&report[4..17], b"GR\x02\x00\x03\x07\x00\x00\x00\x00\x00\x00\x00"); // order 2, ticks 0 to 3, badges 0, 1 and 2
@@ -366,8 +400,20 @@ pub fn core_numbers(words: &[u64], badges: usize, ticks: usize, review: u64, fir
 /// ```
 ///
 /// ```
-/// let words = [0b110, 0b101, 0b011, 0b010, 0b001, 0]; // three badges in contact, and in the next tick two of them
-/// let (everyone, mut report) = (ward::all_badges(3), [0u8; ward::REPORT_BYTES]);
+/// // 65 badges in one tick: badges 63 and 64 are in contact
+/// let mut sets = [0; 65];
+/// (sets[63], sets[64]) = (1 << 64, 1 << 63);
+/// let (words, mut report) = (ward::words_of(&sets), [0u8; ward::report_bytes(65, 1)]);
+/// let size = ward::report(&words, 65, 1, ward::all_badges(65), ward::Thresholds::default(), &mut report)?;
+/// assert_eq!(&report[..4], b"RW\x41\x01");
+/// assert_eq!(&report[4..25], b"GW\x01\x00\x00\x00\x00\x00\x00\x00\x00\x00\x80\x01\x00\x00\x00\x00\x00\x00\x00"); // order 1, tick 0 to 0, badges 63 and 64
+/// assert_eq!(&report[25..size], b"ED\x01\x00\x00\x00");
+/// # Ok::<(), ward::Refused>(())
+/// ```
+///
+/// ```
+/// let words = ward::words_of(&[0b110, 0b101, 0b011, 0b010, 0b001, 0]); // three badges in contact, and in the next tick two of them
+/// let (everyone, mut report) = (ward::all_badges(3), [0u8; ward::report_bytes(3, 2)]);
 /// let size = ward::report(&words, 3, 2, everyone, ward::Thresholds::default(), &mut report)?;
 /// assert_eq!(&report[4..17], b"GR\x02\x00\x00\x07\x00\x00\x00\x00\x00\x00\x00"); // order 2, tick 0 to 0, all three
 /// assert_eq!(&report[17..30], b"GR\x01\x00\x01\x03\x00\x00\x00\x00\x00\x00\x00"); // order 1, ticks 0 to 1, the two
@@ -384,15 +430,18 @@ pub fn core_numbers(words: &[u64], badges: usize, ticks: usize, review: u64, fir
 /// let alone = ward::Thresholds { members: 1, ..Default::default() };
 /// let refused = ward::report(&words, 3, 2, everyone, alone, &mut report).unwrap_err();
 /// assert_eq!(refused.refusal, ward::Refusal::ThresholdOutOfRange);
-/// assert_eq!(refused.to_string(), "refused 17 at 0: least ticks not 1 to 96, least order not 1 to 63, or least members not 2 to 64");
+/// assert_eq!(refused.to_string(), "refused 17 at 0: least ticks not 1 to 96, least order not 1 to 127, or least members not 2 to 128");
 /// let refused = ward::report(&words, 3, 2, 0, alone, &mut report).unwrap_err();
 /// assert_eq!(refused.refusal, ward::Refusal::InvalidReview); // judged before the thresholds
 /// # Ok::<(), ward::Refused>(())
 /// ```
-pub fn report(words: &[u64], badges: usize, ticks: usize, review: u64, thresholds: Thresholds, out: &mut [u8]) -> Result<usize, Refused> {
+pub fn report(words: &[u64], badges: usize, ticks: usize, review: u128, thresholds: Thresholds, out: &mut [u8]) -> Result<usize, Refused> {
     let mut answer = [0; 5];
+    let [low, high] = halves(review);
     let Thresholds { ticks: least_ticks, order, members } = thresholds;
-    unsafe { ward_report(words.as_ptr(), words.len(), badges, ticks, review, least_ticks, order, members, out.as_mut_ptr(), out.len(), &mut answer) };
+    unsafe {
+        ward_report(words.as_ptr(), words.len(), badges, ticks, low, high, least_ticks, order, members, out.as_mut_ptr(), out.len(), &mut answer)
+    };
     written(answer)
 }
 
@@ -401,8 +450,11 @@ pub fn report(words: &[u64], badges: usize, ticks: usize, review: u64, threshold
 /// scores are those of cores among the reviewed badges, of which the query must be; a part shows such a core, not split into circles, and at score 0
 /// all reviewed badges.
 ///
+/// The bytes are PH, n, T, the number of parts and the query in 8 bytes, the lowest first; for each part PT, its score, first and last tick and its
+/// members in 8 bytes; ED and the number of parts in 4 bytes. Where n is above 64, the marks are PW and QW, and sets have 16 bytes.
+///
 /// ```
-/// let words = [0b10, 0b01];
+/// let words = ward::words_of(&[0b10, 0b01]);
 /// let (everyone, mut plan) = (ward::all_badges(2), [0u8; ward::PLAN_BYTES]);
 /// let size = ward::plan(&words, 2, 1, everyone, 0b01, 1, &mut plan)?;
 /// assert_eq!(&plan[..13], b"PH\x02\x01\x01\x01\x00\x00\x00\x00\x00\x00\x00"); // one part, around badge 0
@@ -413,7 +465,7 @@ pub fn report(words: &[u64], badges: usize, ticks: usize, review: u64, threshold
 /// assert_eq!(&plan[13..26], b"PT\x00\x00\x00\x01\x00\x00\x00\x00\x00\x00\x00"); // score 0, tick 0 to 0, badge 0 as the one under review
 ///
 /// // together in all of three ticks: a cut after tick 0 and one after tick 1 have the same sum, and the first is taken
-/// ward::plan(&[0b10, 0b01, 0b10, 0b01, 0b10, 0b01], 2, 3, everyone, 0b01, 2, &mut plan)?;
+/// ward::plan(&ward::words_of(&[0b10, 0b01].repeat(3)), 2, 3, everyone, 0b01, 2, &mut plan)?;
 /// assert_eq!(plan[13..18], *b"PT\x01\x00\x00"); // ticks 0 to 0
 /// assert_eq!(plan[26..31], *b"PT\x01\x01\x02"); // ticks 1 to 2
 ///
@@ -425,9 +477,12 @@ pub fn report(words: &[u64], badges: usize, ticks: usize, review: u64, threshold
 /// assert_eq!(refused.to_string(), "refused 21 at 0: the query has a badge that is not under review");
 /// # Ok::<(), ward::Refused>(())
 /// ```
-pub fn plan(words: &[u64], badges: usize, ticks: usize, review: u64, query: u64, parts: usize, out: &mut [u8]) -> Result<usize, Refused> {
+pub fn plan(words: &[u64], badges: usize, ticks: usize, review: u128, query: u128, parts: usize, out: &mut [u8]) -> Result<usize, Refused> {
     let mut answer = [0; 5];
-    unsafe { ward_plan(words.as_ptr(), words.len(), badges, ticks, review, query, parts, out.as_mut_ptr(), out.len(), &mut answer) };
+    let [[low, high], [query_low, query_high]] = [review, query].map(halves);
+    unsafe {
+        ward_plan(words.as_ptr(), words.len(), badges, ticks, low, high, query_low, query_high, parts, out.as_mut_ptr(), out.len(), &mut answer)
+    };
     written(answer)
 }
 

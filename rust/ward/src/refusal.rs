@@ -44,20 +44,20 @@ use Refusal::*;
 const ALL: [(Refusal, &str); 21] = [
     (CutShort, "the bytes end inside a record, or where one must start"),
     (WrongMark, "the mark is not that of a record that may stand there"),
-    (HeaderOutOfLimits, "badges not 1 to 64, or ticks not 1 to 96"),
+    (HeaderOutOfLimits, "badges not 1 to 128, or ticks not 1 to 96"),
     (InvalidContact, "equal badges, a badge or tick that the day does not have, or first after last"),
     (TooManyContacts, "contact record number 8,001"),
     (WrongCount, "the end's count differs"),
     (TrailingBytes, "bytes follow the end"),
-    (TooFewWords, "fewer words lent than badges times ticks, or fewer work words than that for each log"),
+    (TooFewWords, "fewer words lent than two for each badge in each tick, or fewer work words than that for each log"),
     (BufferTooShort, "the buffer is shorter than the answer"),
-    (SizeOutOfLimits, "badges not 1 to 64, or ticks not 1 to 96, handed over"),
+    (SizeOutOfLimits, "badges not 1 to 128, or ticks not 1 to 96, handed over"),
     (NotADay, "the words are not a day"),
     (InvalidSpan, "first after last, or last not a tick of the day"),
     (ForeignQuery, "the query has a badge that the day does not have"),
     (InvalidParts, "no parts, or more than there are ticks"),
     (WriteTooMany, "the tidy log would need more than 8,000 contact records"),
-    (ThresholdOutOfRange, "least ticks not 1 to 96, least order not 1 to 63, or least members not 2 to 64"),
+    (ThresholdOutOfRange, "least ticks not 1 to 96, least order not 1 to 127, or least members not 2 to 128"),
     (InvalidReceivers, "not 2 to 4 logs, a quorum that is not 1 to their number, or lengths that do not add up to the bytes"),
     (DifferentShifts, "the badges or ticks of a log differ from the first log's"),
     (InvalidReview, "no badge is under review, or one that the day does not have"),
@@ -81,7 +81,7 @@ impl Refusal {
 /// byte for 7, and 0 otherwise. Of several logs it counts from the start of the first.
 ///
 /// ```
-/// let refused = ward::read(b"BH\x02\x01CT", &mut [0; 2]).unwrap_err();
+/// let refused = ward::read(b"BH\x02\x01CT", &mut [0; 4]).unwrap_err();
 /// assert_eq!((refused.refusal, refused.refusal.number(), refused.offset), (ward::Refusal::CutShort, 1, 4));
 /// assert_eq!(refused.to_string(), "refused 1 at 4: the bytes end inside a record, or where one must start");
 /// ```

@@ -1,122 +1,41 @@
--- `circle_of` meets its contract. Who is reached is joined to the smallest member, and who is reached and not on the frontier has no neighbour that is
--- unreached; where nobody is unreached, or nobody is on the frontier, the circle is reached. The walk ends as those on the frontier and unreached get fewer.
-use mathlib.Core.Path.{_≡_, ap, _∙_}
-use Prim.Native.Nat.{ℕ, _^_, _<_}
-use native.Mathlib.Omega.{arith}
+-- `circle_of` meets its contract: a set without badges in its upper word is its lower word.
+use mathlib.Core.Path.{sym, ap, _∙_}
 use borrow.Author.Needs.{needs}
-use Rattle.sets.specs.Sets.{In, intersection, union, difference, only, size, smallest}
-use Rattle.sets.specs.Members.{capacity, members}
-use Rattle.sets.proofs.Sets.{sub-lt}
-use Rattle.sets.proofs.Walks.{rest-is}
+use Rattle.sets.specs.Members.{members}
+use Rattle.sets.proofs.Pairs.{lower-alone}
 use Rattle.cores.specs.Rows.{graph}
-use Rattle.circles.proofs.Walking.{Walks, walk-start, walk-more, walk-less, walk-first, walk-all, some-open, none-open}
+use Rattle.circles.specs.Circles.{firstCircle}
 use Rattle.circles.proofs.circle_of.Statement.{statement}
 use Rattle.circles.proofs.circle_of.Tie as tie
 
-abbrev Inv-loop : tie.InvT-loop
-Inv-loop rows s unreached₀ frontier₀ unreached frontier = Walks (graph rows) (members s) (smallest capacity (members s)) (members unreached) (members frontier)
+word-requires : tie.Need-word-requires
+word-requires c κs = search needs
 
-abbrev μ-loop : tie.MeasureT-loop
-μ-loop rows s unreached₀ frontier₀ unreached frontier = size (union (members frontier) (members unreached))
+word-requires-2 : tie.Need-word-requires-2
+word-requires-2 c κs = search needs
 
--- the badge at hand is on the frontier
-at-hand : (i : tie.After-smallest Inv-loop μ-loop) → In (members (i .before .before .before .before .before .loop .frontier)) (i .smallest .result)
-at-hand i =
-    let e = i .before in
-    let l = e .before .before .before .before in
-    let known : members (l .before .before .before .args .s) < 2 ^ capacity = omega arith in
-    some-open (sub-lt capacity _ _ (l .loop .inv .subset) known) (e .before .is-empty2 .ensures) (e .if2 .left) (i .smallest .ensures) .0
+circle-in-word-requires : tie.Need-circle-in-word-requires
+circle-in-word-requires c κs = c .before .circle-in-word-arg .given .0
 
-rest-requires : tie.Need-rest-requires Inv-loop μ-loop
-rest-requires c κs = search needs
+from-word-requires : tie.Need-from-word-requires
+from-word-requires c κs = search needs
 
-difference-requires : tie.Need-difference-requires Inv-loop μ-loop
-difference-requires c κs = search needs
+returns : tie.Need-returns
+returns c =
+    let w = c .before in
+    let l = w .before in
+    let t = l .before .before in
+    let a = t .before .before .args in
+    c .from-word .ensures ∙ w .circle-in-word .ensures
+    ∙ ap (firstCircle (graph (a .rows .now))) (l .word2 .ensures ∙ lower-alone (members (a .s)) (sym (t .before .word .ensures) ∙ t .if1 .taken))
 
-loop-holds : tie.Need-loop-holds Inv-loop μ-loop
-loop-holds c = rw (c .difference .ensures, c .before .rest .ensures) (walk-start _ _ _)
+circle-in-words-requires : tie.Need-circle-in-words-requires
+circle-in-words-requires c κs = search needs
 
-is-empty-requires : tie.Need-is-empty-requires Inv-loop μ-loop
-is-empty-requires c κs = search needs
-
-returns : tie.Need-returns Inv-loop μ-loop
-returns c = walk-all (c .before .before .loop .inv) (none-open (c .before .is-empty .ensures) (c .if1 .taken))
-
-is-empty-requires-2 : tie.Need-is-empty-requires-2 Inv-loop μ-loop
-is-empty-requires-2 c κs = search needs
-
-difference-requires-2 : tie.Need-difference-requires-2 Inv-loop μ-loop
-difference-requires-2 c κs = search needs
-
-returns-2 : tie.Need-returns-2 Inv-loop μ-loop
-returns-2 c =
-    let t = c .before in
-    c .difference2 .ensures ∙ walk-first (t .before .before .before .before .loop .inv) (none-open (t .before .is-empty2 .ensures) (t .if2 .taken))
-
-smallest-requires : tie.Need-smallest-requires Inv-loop μ-loop
-smallest-requires c κs = search needs
-
-set-at-requires : tie.Need-set-at-requires Inv-loop μ-loop
-set-at-requires c κs = search needs
-
-intersection-requires : tie.Need-intersection-requires Inv-loop μ-loop
-intersection-requires c κs = search needs
-
-difference-requires-3 : tie.Need-difference-requires-3 Inv-loop μ-loop
-difference-requires-3 c κs = search needs
-
-rest-requires-2 : tie.Need-rest-requires-2 Inv-loop μ-loop
-rest-requires-2 c κs = search needs
-
-union-requires : tie.Need-union-requires Inv-loop μ-loop
-union-requires c κs = search needs
-
--- its neighbours that are unreached, those unreached after its turn, and those on the frontier then
-met-is : (c : tie.After-intersection Inv-loop μ-loop) →
-    let i = c .before .before .before in
-    let l = i .before .before .before .before .before in
-    members (c .intersection .result) ≡ intersection (graph (l .before .before .before .args .rows .now) (i .smallest .result)) (members (l .loop .unreached))
-met-is c =
-    let l = c .before .before .before .before .before .before .before .before in
-    c .intersection .ensures ∙ ap (λ (x : ℕ). intersection x (members (l .loop .unreached))) (c .before .set-at .ensures)
-
-loop-less : tie.Need-loop-less Inv-loop μ-loop
-loop-less c =
-    let r = c .before in
-    let d = r .before in
-    let m = d .before in
-    let i = m .before .before .before in
-    let l = i .before .before .before .before .before in
-    rw (c .union .ensures, d .difference3 .ensures, met-is m, rest-is capacity _ (i .smallest .ensures) (r .rest2 .ensures)) (walk-less (l .loop .inv) (i .smallest .result) (at-hand i))
-
-loop-again : tie.Need-loop-again Inv-loop μ-loop
-loop-again c =
-    let r = c .before in
-    let d = r .before in
-    let m = d .before in
-    let i = m .before .before .before in
-    let l = i .before .before .before .before .before in
-    rw (c .union .ensures, d .difference3 .ensures, met-is m, rest-is capacity _ (i .smallest .ensures) (r .rest2 .ensures)) (walk-more (l .loop .inv) (i .smallest .result) (at-hand i))
+returns-2 : tie.Need-returns-2
+returns-2 c = c .circle-in-words .ensures
 
 pub circle-of-spec : {M : Type 1} → statement M
 circle-of-spec =
     tie.close
-    (tie.spec
-    Inv-loop
-    μ-loop
-    rest-requires
-    difference-requires
-    loop-holds
-    is-empty-requires
-    returns
-    is-empty-requires-2
-    difference-requires-2
-    returns-2
-    smallest-requires
-    set-at-requires
-    intersection-requires
-    difference-requires-3
-    rest-requires-2
-    union-requires
-    loop-less
-    loop-again)
+    (tie.spec word-requires word-requires-2 circle-in-word-requires from-word-requires returns circle-in-words-requires returns-2)

@@ -5,6 +5,7 @@ use native.Mathlib.Omega.{arith}
 use borrow.Author.Needs.{needs}
 use Rattle.sets.specs.Sets.{size}
 use Rattle.sets.specs.Members.{capacity, members}
+use Rattle.sets.proofs.Pairs.{members-lt}
 use Rattle.sets.proofs.Walks.{none-unseen}
 use Rattle.cores.specs.Rows.{graph}
 use Rattle.circles.proofs.Counting.{Counts, count-start, count-few, count-more, count-less, count-end, some-left}
@@ -16,6 +17,10 @@ Inv-loop rows least all₀ large₀ left₀ all large left = Counts (graph rows)
 
 abbrev μ-loop : tie.MeasureT-loop
 μ-loop rows least all₀ large₀ left₀ all large left = size (members left)
+
+-- the set holds badges below the capacity alone
+wide : (c : tie.Start Inv-loop μ-loop) → members (c .args .s) < 2 ^ capacity
+wide c = members-lt (c .args .s) (omega arith) (omega arith)
 
 loop-holds : tie.Need-loop-holds Inv-loop μ-loop
 loop-holds c = count-start _ _ _
@@ -29,14 +34,12 @@ circle-of-requires c κs = search needs
 tally-requires : tie.Need-tally-requires Inv-loop μ-loop
 tally-requires c κs =
     let l = c .before .before .before in
-    let known : members (l .before .args .s) < 2 ^ capacity = omega arith in
-    count-few known (l .loop .inv) .1
+    count-few (wide (l .before)) (l .loop .inv) .1
 
 add-all : tie.Need-add-all Inv-loop μ-loop
 add-all c =
     let l = c .before .before .before .before in
-    let known : members (l .before .args .s) < 2 ^ capacity = omega arith in
-    omega (arith, count-few known (l .loop .inv) .0)
+    omega (arith, count-few (wide (l .before)) (l .loop .inv) .0)
 
 difference-requires : tie.Need-difference-requires Inv-loop μ-loop
 difference-requires c κs = search needs
@@ -45,21 +48,18 @@ loop-less : tie.Need-loop-less Inv-loop μ-loop
 loop-less c =
     let t = c .before .before .before in
     let l = t .before .before in
-    let known : members (l .before .args .s) < 2 ^ capacity = omega arith in
-    rw (c .difference .ensures, c .before .before .circle-of .ensures) (count-less known (l .loop .inv) (some-left (t .before .is-empty .ensures) (t .if1 .taken)))
+    rw (c .difference .ensures, c .before .before .circle-of .ensures) (count-less (wide (l .before)) (l .loop .inv) (some-left (t .before .is-empty .ensures) (t .if1 .taken)))
 
 loop-again : tie.Need-loop-again Inv-loop μ-loop
 loop-again c =
     let t = c .before .before .before in
     let l = t .before .before in
-    let known : members (l .before .args .s) < 2 ^ capacity = omega arith in
-    rw (c .difference .ensures, c .before .tally .ensures, c .before .before .circle-of .ensures) (count-more known (l .loop .inv) (some-left (t .before .is-empty .ensures) (t .if1 .taken)))
+    rw (c .difference .ensures, c .before .tally .ensures, c .before .before .circle-of .ensures) (count-more (wide (l .before)) (l .loop .inv) (some-left (t .before .is-empty .ensures) (t .if1 .taken)))
 
 returns : tie.Need-returns Inv-loop μ-loop
 returns c =
     let l = c .before .before in
-    let known : members (l .before .args .s) < 2 ^ capacity = omega arith in
-    count-end known (l .loop .inv) (none-unseen (c .before .is-empty .ensures) (c .if1 .left))
+    count-end (wide (l .before)) (l .loop .inv) (none-unseen (c .before .is-empty .ensures) (c .if1 .left))
 
 pub count-circles-spec : {M : Type 1} → statement M
 count-circles-spec =

@@ -1,19 +1,18 @@
--- probe_peel meets its contract: what peel leaves, of the base as a set, with the members as a word.
+-- probe_peel meets its contract: what peel leaves, of the base as a set, with the members as two words.
 use borrow.Author.Needs.{needs}
 use Rattle.probes.proofs.probe_peel.Statement.{statement}
 use Rattle.probes.proofs.probe_peel.Tie as tie
 
-from-word-requires : tie.Need-from-word-requires
-from-word-requires c κs = search needs
+from-words-requires : tie.Need-from-words-requires
+from-words-requires c κs = search needs
 
 peel-requires : tie.Need-peel-requires
 peel-requires c κs = search needs
 
-to-word-requires : tie.Need-to-word-requires
-to-word-requires c κs = search needs
-
 returns : tie.Need-returns
-returns c = rw (c .before .before .before .before .from-word .ensures, ← c .before .to-word .ensures) at (c .before .before .before .peel .ensures)
+returns c =
+    let p = c .before .before .before in
+    rw (p .before .from-words .ensures) at (p .peel .ensures)
 
 pub probe-peel-spec : {M : Type 1} → statement M
-probe-peel-spec = tie.close (tie.spec from-word-requires peel-requires to-word-requires returns)
+probe-peel-spec = tie.close (tie.spec from-words-requires peel-requires returns)

@@ -5,8 +5,8 @@ use Rattle.ward.specs.Answers.{writtenAnswer}
 use Rattle.ward.proofs.ward_core_numbers.Statement.{statement}
 use Rattle.ward.proofs.ward_core_numbers.Tie as tie
 
-from-word-requires : tie.Need-from-word-requires
-from-word-requires c κs = search needs
+from-words-requires : tie.Need-from-words-requires
+from-words-requires c κs = search needs
 
 core-numbers-requires : tie.Need-core-numbers-requires
 core-numbers-requires c κs = search needs
@@ -19,9 +19,9 @@ same-length c = search needs
 
 returns : tie.Need-returns
 returns c =
-    let r = rw (c .before .before .before .before .before .from-word .ensures) at (c .before .before .before .core-numbers .ensures) in
+    let r = rw (c .before .before .before .before .before .from-words .ensures) at (c .before .before .before .core-numbers .ensures) in
     (c .group-answer .ensures ∙ ap writtenAnswer (r .0), r .1)
 
 pub ward-core-numbers-spec : {M : Type 1} → statement M
 ward-core-numbers-spec =
-    tie.close (tie.spec from-word-requires core-numbers-requires group-answer-requires same-length returns)
+    tie.close (tie.spec from-words-requires core-numbers-requires group-answer-requires same-length returns)

@@ -5,8 +5,8 @@ use Rattle.ward.specs.Answers.{writtenAnswer}
 use Rattle.ward.proofs.ward_report.Statement.{statement}
 use Rattle.ward.proofs.ward_report.Tie as tie
 
-from-word-requires : tie.Need-from-word-requires
-from-word-requires c κs = search needs
+from-words-requires : tie.Need-from-words-requires
+from-words-requires c κs = search needs
 
 report-requires : tie.Need-report-requires
 report-requires c κs = search needs
@@ -19,8 +19,8 @@ same-length c = search needs
 
 returns : tie.Need-returns
 returns c =
-    let r = rw (c .before .before .before .before .before .from-word .ensures) at (c .before .before .before .report .ensures) in
+    let r = rw (c .before .before .before .before .before .from-words .ensures) at (c .before .before .before .report .ensures) in
     (c .group-answer .ensures ∙ ap writtenAnswer (r .0), (r .1 .0, rw (r .0) at (r .1 .1)))
 
 pub ward-report-spec : {M : Type 1} → statement M
-ward-report-spec = tie.close (tie.spec from-word-requires report-requires group-answer-requires same-length returns)
+ward-report-spec = tie.close (tie.spec from-words-requires report-requires group-answer-requires same-length returns)

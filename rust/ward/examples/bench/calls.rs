@@ -23,7 +23,7 @@ fn half(words: &[u64], n: usize, ticks: usize, out: &mut [u8]) -> Option<usize> 
 }
 
 fn engine_plan(words: &[u64], n: usize, ticks: usize, query: u64, parts: usize, out: &mut [u8]) -> Option<usize> {
-    ward::plan(words, n, ticks, ward::all_badges(n), query, parts, out).ok()
+    ward::plan(words, n, ticks, ward::all_badges(n), query.into(), parts, out).ok()
 }
 
 fn engine_trace(words: &[u64], n: usize, ticks: usize, index: usize, start: usize, out: &mut [u8]) -> Option<usize> {
@@ -35,7 +35,7 @@ fn checked(words: &[u64], n: usize, ticks: usize, out: &mut [u8]) -> usize {
     ward::trace(words, n, ticks, n, 0, out).expect_err("there is no badge n").refusal.number().into()
 }
 
-/// The ways to make the plain report.
+/// The ways to make the plain report. The baselines, here and below, take days of up to 64 badges, whose sets are single words.
 pub const REPORTS: [(&str, Report); 4] =
     [("engine", engine_report), ("lists", lists::report), ("algorithm2", algorithm2::report), ("bitsets", bitsets::report)];
 /// The engine's reports of less than that.

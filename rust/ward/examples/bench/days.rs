@@ -17,14 +17,14 @@ impl Day {
     /// core falls apart: 32 pairs that are others in each tick.
     pub fn named(name: &str) -> Day {
         match name {
-            "d1" => Day { badges: 4, ticks: 3, words: vec![6, 5, 11, 4, 6, 5, 11, 4, 0, 0, 8, 4] },
+            "d1" => Day { badges: 4, ticks: 3, words: ward::words_of(&[6, 5, 11, 4, 6, 5, 11, 4, 0, 0, 8, 4]) },
             _ => Day::sized(name, 64, 96),
         }
     }
 
     /// A day as one of the tables is made, with so many badges and ticks.
     pub fn sized(name: &str, badges: usize, ticks: usize) -> Day {
-        let empty = Day { badges, ticks, words: vec![0; badges * ticks] };
+        let empty = Day { badges, ticks, words: vec![0; 2 * badges * ticks] };
         match name {
             "sparse" => empty.pairs(1, 49_600, 80),
             "busy" => empty.teams(5),
@@ -38,8 +38,9 @@ impl Day {
     }
 
     fn meet(&mut self, t: usize, u: usize, v: usize) {
-        self.words[t * self.badges + u] |= 1 << v;
-        self.words[t * self.badges + v] |= 1 << u;
+        for (u, v) in [(u, v), (v, u)] {
+            self.words[2 * (t * self.badges + u) + v / 64] |= 1 << (v % 64);
+        }
     }
 
     /// Each pair in each tick with a probability of so many in a million, keeping its state with a probability of so many in 100, else drawn anew.

@@ -7,7 +7,8 @@
 //!
 //!     cargo run --offline --release --example bench                the tables
 //!     cargo run --offline --release --example bench -- W C         one call, for an instruction count: workload W, call C, as in random plan8
-//!     cargo run --offline --release --example bench -- W N T C     the same, on a day of N badges and T ticks that is made as workload W is
+//!     cargo run --offline --release --example bench -- W N T C     the same, on a day of N badges and T ticks that is made as workload W is: up to 128
+//!                                                                  badges for the engine's calls, and up to 64 for the baselines
 
 mod baselines;
 mod calls;

@@ -1,7 +1,7 @@
 //! What holds of the trace of any day by its words alone, whoever made it: that it is of chains, and misses none; and the traces of logs.
 
 use crate::model::{Day, log_bytes};
-use crate::support::days::{day_by, log_of, meet_some, random_day};
+use crate::support::days::{about_whole_words, day_by, log_of, meet_some, random_day};
 use crate::support::handed::Handed;
 use crate::support::logs::random_log;
 use crate::support::random::Random;
@@ -11,6 +11,7 @@ use crate::support::teams::random_teams;
 struct Traced<'a> {
     words: &'a [u64],
     n: usize,
+    ticks: usize,
     index: usize,
     start: usize,
     bytes: Vec<u8>,
@@ -18,9 +19,9 @@ struct Traced<'a> {
 
 impl Traced<'_> {
     fn of(words: &[u64], n: usize, index: usize, start: usize) -> Traced<'_> {
-        let mut bytes = vec![0; 2 * n];
-        assert_eq!(ward::trace(words, n, words.len() / n, index, start, &mut bytes), Ok(2 * n));
-        Traced { words, n, index, start, bytes }
+        let (ticks, mut bytes) = (words.len() / (2 * n), vec![0; 2 * n]);
+        assert_eq!(ward::trace(words, n, ticks, index, start, &mut bytes), Ok(2 * n));
+        Traced { words, n, ticks, index, start, bytes }
     }
 
     fn tick(&self, u: usize) -> usize {
@@ -31,12 +32,12 @@ impl Traced<'_> {
         self.bytes[self.n + u] as usize
     }
 
-    fn ticks(&self) -> &[u8] {
+    fn reached(&self) -> &[u8] {
         &self.bytes[..self.n]
     }
 
     fn met(&self, t: usize, u: usize, v: usize) -> bool {
-        self.words[t * self.n + u] >> v & 1 == 1
+        self.words[2 * (t * self.n + u) + v / 64] >> (v % 64) & 1 == 1
     }
 
     fn passes_on(&self, u: usize, t: usize) -> bool {
@@ -46,7 +47,7 @@ impl Traced<'_> {
     /// The sources of a reached badge, followed back, are a chain to the index: contacts, in strictly falling ticks, down to the start or a later
     /// one. Gives how many.
     fn follow_back(&self, mut u: usize) -> usize {
-        let (mut contacts, mut after) = (0, self.words.len() / self.n);
+        let (mut contacts, mut after) = (0, self.ticks);
         while u != self.index {
             let (t, v) = (self.tick(u), self.source(u));
             assert!(self.start <= t && t < after && self.met(t, u, v));
@@ -58,7 +59,7 @@ impl Traced<'_> {
     /// Whoever is in contact with a badge that passes on is reached in that tick or sooner; and where it is in that tick, by that badge or a smaller
     /// one.
     fn nobody_is_missed(&self) {
-        for t in self.start..self.words.len() / self.n {
+        for t in self.start..self.ticks {
             for u in (0..self.n).filter(|u| *u != self.index) {
                 let mut sources = (0..self.n).filter(|&v| self.met(t, u, v) && self.passes_on(v, t));
                 assert!(sources.all(|v| self.tick(u) < t || self.tick(u) == t && self.source(u) <= v));
@@ -104,8 +105,11 @@ fn promise_on_random_days() {
     let mut random = Random(111);
     let (mut chains, mut longest) = (0, 0);
     for i in 0..2000 {
-        let most = if i % 100 == 0 { 24 } else { 9 };
-        let (n, ticks) = (1 + random.below(most), 1 + random.below(most));
+        let (n, ticks) = match i % 400 {
+            100 => (about_whole_words(&mut random), 1 + random.below(4)),
+            0 | 200 | 300 => (1 + random.below(24), 1 + random.below(24)),
+            _ => (1 + random.below(9), 1 + random.below(9)),
+        };
         let words = any_day(&mut random, n, ticks).words();
         for index in 0..n {
             let traces: Vec<Traced> = (0..ticks).map(|start| Traced::of(&words, n, index, start)).collect();
@@ -115,7 +119,7 @@ fn promise_on_random_days() {
                 longest = longest.max(contacts);
             }
             for pair in traces.windows(2) {
-                assert!(pair[0].ticks().iter().zip(pair[1].ticks()).all(|(earlier, later)| earlier <= later));
+                assert!(pair[0].reached().iter().zip(pair[1].reached()).all(|(earlier, later)| earlier <= later));
             }
         }
     }
@@ -131,12 +135,12 @@ fn more_contacts_and_fewer() {
         let mut day = any_day(&mut random, n, ticks);
         let (index, start) = (random.below(n), random.below(ticks));
         let words = day.words();
-        let later = [vec![0; n * start], words[n * start..].to_vec()].concat();
+        let later = [vec![0; 2 * n * start], words[2 * n * start..].to_vec()].concat();
         let trace = Traced::of(&words, n, index, start);
         assert_eq!(Traced::of(&later, n, index, start).bytes, trace.bytes);
         meet_some(&mut random, &mut day, 1);
         let more = day.words();
-        assert!(Traced::of(&more, n, index, start).ticks().iter().zip(trace.ticks()).all(|(with, without)| with <= without));
+        assert!(Traced::of(&more, n, index, start).reached().iter().zip(trace.reached()).all(|(with, without)| with <= without));
     }
 }
 
@@ -161,7 +165,7 @@ fn badges_exchanged() {
 pub fn trace_of(log: &[u8], index: usize, start: usize) -> Vec<u8> {
     let mut words = [0; ward::WORDS];
     let day = ward::read(log, &mut words).expect("a good log");
-    Traced::of(&words[..day.badges * day.ticks], day.badges, index, start).bytes
+    Traced::of(&words[..2 * day.badges * day.ticks], day.badges, index, start).bytes
 }
 
 /// A log, its tidy log, and logs that say the same otherwise: pairs from the other side, and each tick in a record of its own, in any order.
@@ -171,9 +175,9 @@ fn logs_that_mean_the_same() {
     for _ in 0..2000 {
         let (n, ticks, count) = (2 + random.below(9), 1 + random.below(9), random.below(20));
         let log = random_log(&mut random, n, ticks, count);
-        let (mut words, mut tidied) = (vec![0; n * ticks], vec![0; ward::LOG_BYTES]);
+        let (mut words, mut tidied) = (vec![0; 2 * n * ticks], vec![0; ward::LOG_BYTES]);
         let size = ward::tidy(&log, &mut words, &mut tidied).expect("a good log");
-        let day = day_by(n, ticks, |t, u, v| words[t * n + u] >> v & 1 == 1);
+        let day = day_by(n, ticks, |t, u, v| words[2 * (t * n + u)] >> v & 1 == 1);
         let mut pieces: Vec<[u8; 4]> = day.runs().into_iter().flat_map(|[u, v, first, last]| (first..=last).map(move |t| [v, u, t, t])).collect();
         (0..pieces.len()).for_each(|k| pieces.swap(k, random.below(k + 1)));
         let (index, start) = (random.below(n), random.below(ticks));
@@ -187,14 +191,16 @@ fn logs_that_mean_the_same() {
 #[test]
 fn largest_days() {
     let mut random = Random(115);
-    let few = [50, 100, 200, 400, 1000].map(|count| few_contacts(&mut random, 64, 96, count));
-    let by_chance = [(1, 0), (1, 90), (10, 95), (50, 0)].map(|(density, keep)| random_day(&mut random, 64, 96, density, keep));
-    for day in few.iter().chain(&by_chance).chain([&random_teams(&mut random, 64, 96)]) {
-        let words = day.words();
-        let handed = Handed::new(&words, 64, 96);
-        for (index, start) in [(0, 0), (random.below(64), random.below(40)), (63, 0)] {
-            assert!(handed.trace(index, start, 128).is_ok());
-            Traced::of(&words, 64, index, start).keeps_its_promise();
+    for n in [64, 65, 128] {
+        let few = [50, 200, 400, 1000].map(|count| few_contacts(&mut random, n, 96, count));
+        let by_chance = [(1, 0), (1, 90), (50, 0)].map(|(density, keep)| random_day(&mut random, n, 96, density, keep));
+        for day in few.iter().chain(&by_chance).chain([&random_teams(&mut random, n, 96)]) {
+            let words = day.words();
+            let handed = Handed::new(&words, n, 96);
+            for (index, start) in [(0, 0), (random.below(n), random.below(40)), (n - 1, 0)] {
+                assert!(handed.trace(index, start, 2 * n).is_ok());
+                Traced::of(&words, n, index, start).keeps_its_promise();
+            }
         }
     }
 }

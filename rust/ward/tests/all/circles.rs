@@ -1,15 +1,17 @@
 //! Circles: the groups of a core whose members fall apart. Days whose answers are written by hand or given by a rule; what holds of the circles of
 //! any day, as the report's bytes show it; and random days of teams.
 
-use crate::model::{Day, Least, PLAIN, Record, full, judge, plan_bytes, report_bytes};
+use crate::model::{Day, Least, PLAIN, Record, full, judge, plan_bytes, record_size, report_bytes};
 use crate::reports::D1;
 use crate::support::calls::read;
 use crate::support::d1::d1;
-use crate::support::digits::{MOST_LISTED, ONE_MORE, changing_groups, changing_pairs, digit_groups, digit_log, team_day, team_groups};
+use crate::support::days::about_whole_words;
+use crate::support::digits::{MOST_LISTED, MOST_PAIRS, ONE_MORE, changing_groups, changing_pairs, digit_groups, digit_log, wide_groups, wide_log};
+use crate::support::digits::{team_day, team_groups};
 use crate::support::handed::Handed;
 use crate::support::random::Random;
 use crate::support::seen::all_seen;
-use crate::support::sets::reviewable;
+use crate::support::sets::{reviewable, words_of};
 use crate::support::teams::Shape::*;
 use crate::support::teams::{Shape, gather, random_teams};
 use crate::thresholds::random_least;
@@ -25,13 +27,13 @@ fn day_of(n: usize, ticks: usize, teams: &[(Shape, &[usize], usize, usize)]) -> 
 
 /// The report of a day under a review and thresholds has just these groups: in a buffer of the exact length, of one byte more, and of as much as any
 /// report of such a day takes; one byte less is refused, a record less, and none at all.
-fn shows_among(day: &Day, review: u64, least: Least, groups: &[Record]) {
+fn shows_among(day: &Day, review: u128, least: Least, groups: &[Record]) {
     let (handed, report) = (Handed::reviewing(&day.words(), day.n, day.ticks, review), report_bytes(day.n, day.ticks, groups));
-    assert_eq!(report.len(), 10 + 13 * groups.len());
+    assert_eq!(report.len(), 10 + record_size(day.n) * groups.len());
     for room in [report.len(), report.len() + 1, ward::report_bytes(day.n, day.ticks)] {
         assert_eq!(handed.filtered(least, room), Ok(report.clone()), "{least:?}");
     }
-    for room in [report.len() - 1, report.len().saturating_sub(13), 0] {
+    for room in [report.len() - 1, report.len().saturating_sub(record_size(day.n)), 0] {
         assert_eq!(handed.filtered(least, room), Err((9, 0)), "{least:?}");
     }
 }
@@ -50,7 +52,7 @@ const TWO_TRIANGLES: &[u8; 36] = b"RH\x06\x02\
 /// A buffer of every length up to 80: room for the core in one record is not enough.
 #[test]
 fn two_triangles_into_every_buffer() {
-    let day = Handed::new(&[0b000110, 0b000101, 0b000011, 0b110000, 0b101000, 0b011000].repeat(2), 6, 2);
+    let day = Handed::new(&words_of(&[0b000110, 0b000101, 0b000011, 0b110000, 0b101000, 0b011000].repeat(2)), 6, 2);
     for room in 0..=80 {
         assert_eq!(day.report(room), if room < 36 { Err((9, 0)) } else { Ok(TWO_TRIANGLES.to_vec()) });
     }
@@ -63,10 +65,10 @@ fn two_triangles() {
     for [a, b] in [[[0, 1, 2], [3, 4, 5]], [[3, 4, 5], [0, 1, 2]], [[0, 2, 4], [1, 3, 5]], [[5, 0, 3], [4, 2, 1]], [[1, 2, 3], [0, 4, 5]]] {
         let day = day_of(6, 3, &[(Clique, &a, 0, 2), (Clique, &b, 0, 2)]);
         let mut sets = [a, b].map(|team| team.iter().map(|u| 1 << u).sum());
-        sets.sort_by_key(|set: &u64| set.trailing_zeros());
+        sets.sort_by_key(|set: &u128| set.trailing_zeros());
         let both = sets.map(|set| (2, 0, 2, set));
         shows(&day, &both);
-        for members in 2..=64 {
+        for members in 2..=128 {
             shows_among(&day, full(6), [1, 1, members], if members <= 3 { &both } else { &[] });
         }
         shows_among(&day, full(6), [3, 2, 3], &both);
@@ -89,8 +91,8 @@ fn numbers_and_plans_are_not_split() {
 /// D1's cores are of one piece each: its report is what it was, byte for byte.
 #[test]
 fn d1_is_as_it_was() {
-    assert_eq!(d1(12).report(36), Ok(D1.to_vec()));
-    assert_eq!(d1(12).report(35), Err((9, 0)));
+    assert_eq!(d1(24).report(36), Ok(D1.to_vec()));
+    assert_eq!(d1(24).report(35), Err((9, 0)));
 }
 
 /// A triangle and a ring of four, of the same order: with four members at least the ring alone is kept, though the core has seven.
@@ -216,7 +218,7 @@ fn circles_of_longer_spans() {
 /// number of teams.
 #[test]
 fn as_many_as_there_can_be() {
-    for n in [2, 3, 7, 32, 63, 64] {
+    for n in [2, 3, 7, 32, 63, 64, 65, 127, 128] {
         for k in 1..n {
             let count = n / (k + 1);
             let teams: Vec<Vec<usize>> = (0..count).map(|i| (0..=k).map(|j| i + j * count).collect()).collect();
@@ -226,49 +228,67 @@ fn as_many_as_there_can_be() {
     }
 }
 
-/// 32 pairs that are others in each tick: each is a group, in its tick, and none is on two ticks. Badge 0 has another partner in each of 32 ticks,
-/// and in the day that is read from a log one of four.
+/// 32 pairs that are others in each tick, and 64: each is a group, in its tick, and none is on two ticks. Badge 0 has another partner in each of 32
+/// ticks, or 64, and in the day that is read from a log one of four.
 #[test]
 fn other_pairs_in_each_tick() {
-    let groups = changing_groups();
+    for n in [64, 128] {
+        let (day, groups) = (changing_pairs(n), changing_groups(n));
+        assert_eq!(groups.len(), 96 * n / 2);
+        shows(&day, &groups);
+        shows_among(&day, full(n), [1, 1, 3], &[]);
+        shows_among(&day, full(n), [2, 1, 2], &[]);
+    }
+    let groups = digit_groups(64, 96, 1);
     assert_eq!(groups.len(), 96 * 32);
-    shows(&changing_pairs(), &groups);
-    shows_among(&changing_pairs(), u64::MAX, [1, 1, 3], &[]);
-    shows_among(&changing_pairs(), u64::MAX, [2, 1, 2], &[]);
-
-    let groups = digit_groups(96, 1);
-    assert_eq!(groups.len(), 96 * 32);
-    shows(&judge(&digit_log(96 * 64, 1)).expect("a log").0, &groups);
+    shows(&judge(&digit_log(64, 96 * 64, 1)).expect("a log").0, &groups);
 }
 
 /// The longest report that a listing shows, 5,040 records in 65,530 bytes, and one with a record more, both from a log. On 90 spans each there are 8
 /// circles of order 3, in one tick, 16 of order 2, in two, and 32 of order 1, in three.
 #[test]
 fn reports_about_the_longest_listing() {
-    let (mut groups, logs) = (digit_groups(92, 3), [0, 1].map(|more| digit_log(MOST_LISTED + more, 3)));
+    let (mut groups, logs) = (digit_groups(64, 92, 3), [0, 1].map(|more| digit_log(64, MOST_LISTED + more, 3)));
     assert_eq!(groups.len(), 90 * (8 + 16 + 32));
     for (log, records) in logs.iter().zip([5040, 5041]) {
-        assert_eq!(read(log, 6144).map(|day| day.2), Ok(MOST_LISTED + records - 5040));
-        let (day, _) = judge(log).expect("a log");
-        shows(&day, &groups);
-        let (handed, len) = (Handed::new(&day.words(), 64, 96), 10 + 13 * records);
-        assert_eq!(handed.report(65536).map_or(0, |report| report.len()), if len <= 65536 { len } else { 0 });
-        assert_eq!(handed.report(ward::REPORT_BYTES).map(|report| report.len()), Ok(len));
+        assert_eq!(read(log, 12288).map(|day| day.2), Ok(MOST_LISTED + records - 5040));
+        is_about_65536(log, &groups, 10 + 13 * records);
         groups.push(ONE_MORE);
     }
 }
 
-/// Teams in which each badge misses another one in each tick: up to 9,590 records, more than any listing shows. With three members at least the pairs
-/// are left out, 32 on each span that leaves one partner.
+/// The same of 128 badges and 48 ticks: 3,120 records in 65,530 bytes, and one record more.
+#[test]
+fn wide_reports_about_the_longest_listing() {
+    for (pairs, records) in [(MOST_PAIRS, 3120), (MOST_PAIRS + 1, 3121)] {
+        let (log, groups) = (wide_log(pairs), wide_groups(pairs));
+        assert_eq!((read(&log, 12288), groups.len()), (Ok((128, 48, 33 * 128 + pairs)), records));
+        is_about_65536(&log, &groups, 10 + 21 * records);
+    }
+}
+
+/// The day of a log has these groups, and a report of so many bytes, into 65,536 and into as many as any report takes.
+fn is_about_65536(log: &[u8], groups: &[Record], len: usize) {
+    let (day, _) = judge(log).expect("a log");
+    shows(&day, groups);
+    let handed = Handed::new(&day.words(), day.n, day.ticks);
+    assert_eq!(handed.report(65536).map_or(0, |report| report.len()), if len <= 65536 { len } else { 0 });
+    assert_eq!(handed.report(ward::REPORT_BYTES).map(|report| report.len()), Ok(len));
+}
+
+/// Teams in which each badge misses another one in each tick: up to 9,590 records of 64 badges, and up to 19,180 of 128, more than any listing shows.
+/// With three members at least the pairs are left out, half as many as there are badges on each span that leaves one partner.
 #[test]
 fn many_records() {
-    for (size, records) in [(4, 4576), (8, 7624), (16, 9324), (32, 9590), (64, 7288)] {
-        let (day, groups) = (team_day(size), team_groups(size));
-        assert_eq!(groups.len(), records, "{size}");
+    let narrow = [(4, 4576), (8, 7624), (16, 9324), (32, 9590), (64, 7288)].map(|(size, records)| (64, size, records));
+    let wide = [(16, 18648), (32, 19180), (64, 14576), (128, 4720)].map(|(size, records)| (128, size, records));
+    for (n, size, records) in narrow.into_iter().chain(wide) {
+        let (day, groups) = (team_day(n, size), team_groups(n, size));
+        assert_eq!(groups.len(), records, "{n}, {size}");
         shows(&day, &groups);
         let larger: Vec<Record> = groups.into_iter().filter(|group| group.3.count_ones() > 2).collect();
-        assert_eq!(larger.len(), records - 32 * (99 - size), "{size}");
-        shows_among(&day, u64::MAX, [1, 1, 3], &larger);
+        assert_eq!(larger.len(), records - n / 2 * 99usize.saturating_sub(size), "{n}, {size}");
+        shows_among(&day, full(n), [1, 1, 3], &larger);
     }
 }
 
@@ -277,14 +297,15 @@ fn many_records() {
 #[test]
 fn room_for_any_report() {
     let circles = |n: usize| (1..n.max(1)).map(|k| n / (k + 1)).sum::<usize>();
-    for n in 0..=64 {
+    for n in 0..=128 {
         for ticks in 0..=96 {
-            assert_eq!(ward::report_bytes(n, ticks), 10 + 13 * ticks * circles(n));
+            assert_eq!(ward::report_bytes(n, ticks), 10 + if n <= 64 { 13 } else { 21 } * ticks * circles(n));
         }
         assert_eq!(ward::report_bytes(n, usize::MAX), ward::report_bytes(n, 96));
     }
-    assert_eq!((circles(64), ward::REPORT_BYTES), (216, 10 + 13 * 20736));
-    for n in [64, 65, 1 << 32, usize::MAX] {
+    assert_eq!((circles(64), ward::report_bytes(64, 96)), (216, 10 + 13 * 20736));
+    assert_eq!((circles(128), ward::REPORT_BYTES), (517, 10 + 21 * 49632));
+    for n in [128, 129, 1 << 32, usize::MAX] {
         assert_eq!(ward::report_bytes(n, 96), ward::REPORT_BYTES);
         assert_eq!(ward::report_bytes(n, 0), 10);
     }
@@ -294,21 +315,22 @@ fn room_for_any_report() {
 fn records(report: &[u8]) -> Vec<Record> {
     let record = |bytes: &[u8]| {
         let [order, first, last] = [bytes[2], bytes[3], bytes[4]].map(usize::from);
-        (order, first, last, u64::from_le_bytes(bytes[5..].try_into().expect("eight bytes")))
+        (order, first, last, bytes[5..].iter().rev().fold(0, |set, byte| set << 8 | u128::from(*byte)))
     };
-    report[4..report.len() - 6].chunks(13).map(record).collect()
+    report[4..report.len() - 6].chunks(if report.starts_with(b"RW") { 21 } else { 13 }).map(record).collect()
 }
 
 /// What is joined to somebody in a set, throughout a span.
-fn neighbours(words: &[u64], n: usize, (first, last): (usize, usize), set: u64) -> u64 {
-    let row = |u: usize| (first..=last).fold(u64::MAX, |row, t| row & words[t * n + u]);
+fn neighbours(words: &[u64], n: usize, (first, last): (usize, usize), set: u128) -> u128 {
+    let contacts = |place: usize| u128::from(words[2 * place]) | u128::from(words[2 * place + 1]) << 64;
+    let row = |u: usize| (first..=last).fold(u128::MAX, |row, t| row & contacts(t * n + u));
     (0..n).filter(|u| set >> u & 1 == 1).fold(0, |joined, u| joined | row(u))
 }
 
 /// What holds of the plain report of any day, without the model: "a core's circles together are exactly that core", by the core numbers that the
 /// engine gives on the span; no two have a member in common, or are joined; each is joined by chains within; and they stand by smallest member. Gives
 /// how many circles there are beyond the first of each core.
-fn are_circles(words: &[u64], n: usize, ticks: usize, review: u64) -> usize {
+fn are_circles(words: &[u64], n: usize, ticks: usize, review: u128) -> usize {
     let day = Handed::reviewing(words, n, ticks, review);
     let records = records(&day.report(ward::report_bytes(n, ticks)).expect("a report"));
     let cores: Vec<&[Record]> = records.chunk_by(|a, b| (a.1, a.2) == (b.1, b.2)).collect();
@@ -316,7 +338,7 @@ fn are_circles(words: &[u64], n: usize, ticks: usize, review: u64) -> usize {
     for circles in &cores {
         let (order, first, last, _) = circles[0];
         let numbers = day.core_numbers(first, last, n).expect("core numbers");
-        let core: u64 = (0..n).filter(|u| numbers[*u] as usize >= order).map(|u| 1 << u).sum();
+        let core: u128 = (0..n).filter(|u| numbers[*u] as usize >= order).map(|u| 1 << u).sum();
         assert_eq!(numbers.iter().copied().max(), Some(order as u8));
         assert!(circles.iter().all(|circle| circle.0 == order));
         assert_eq!(circles.iter().fold(0, |all, circle| all | circle.3), core);
@@ -334,9 +356,14 @@ fn are_circles(words: &[u64], n: usize, ticks: usize, review: u64) -> usize {
     records.len() - cores.len()
 }
 
-/// A number of badges, up to 64 or up to 20, and a number of ticks.
-fn random_size(random: &mut Random, large: bool) -> (usize, usize) {
-    if large { (1 + random.below(64), 1 + random.below(30)) } else { (1 + random.below(20), 1 + random.below(8)) }
+/// A number of badges, and of ticks: up to 20 badges mostly; in one of 50 days any number, and in another one about as many as a word holds, or two
+/// words.
+fn random_size(random: &mut Random, day: usize) -> (usize, usize) {
+    match day % 50 {
+        0 => (1 + random.below(128), 1 + random.below(30)),
+        25 => (about_whole_words(random), 1 + random.below(12)),
+        _ => (1 + random.below(20), 1 + random.below(8)),
+    }
 }
 
 /// Random days of teams, of all badges and of some: in a third of them or more, some core falls apart.
@@ -344,7 +371,7 @@ fn random_size(random: &mut Random, large: bool) -> (usize, usize) {
 fn of_random_teams() {
     let (mut random, mut days) = (Random(101), 0);
     for i in 0..3000 {
-        let (n, ticks) = random_size(&mut random, i % 100 == 0);
+        let (n, ticks) = random_size(&mut random, i);
         let (words, review) = (random_teams(&mut random, n, ticks).words(), reviewable(&mut random, n));
         days += usize::from(are_circles(&words, n, ticks, full(n)) > 0) + usize::from(are_circles(&words, n, ticks, review) > 0);
     }
@@ -355,9 +382,9 @@ fn of_random_teams() {
 #[test]
 fn of_the_largest_days() {
     let mut random = Random(102);
-    for _ in 0..4 {
-        let words = random_teams(&mut random, 64, 96).words();
-        assert!(are_circles(&words, 64, 96, u64::MAX) > 0);
+    for n in [64, 64, 65, 128, 128] {
+        let words = random_teams(&mut random, n, 96).words();
+        assert!(are_circles(&words, n, 96, full(n)) > 0);
     }
 }
 
@@ -367,7 +394,7 @@ fn of_the_largest_days() {
 fn random_teams_under_thresholds() {
     let (mut random, mut in_part) = (Random(103), 0);
     for i in 0..2000 {
-        let (n, ticks) = random_size(&mut random, i % 100 == 0);
+        let (n, ticks) = random_size(&mut random, i);
         let words = random_teams(&mut random, n, ticks).words();
         let review = if random.below(2) == 0 { full(n) } else { reviewable(&mut random, n) };
         let day = Handed::reviewing(&words, n, ticks, review);

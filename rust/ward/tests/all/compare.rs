@@ -1,8 +1,8 @@
 //! Every call against the model: random inputs, long and short, valid and damaged, all sizes.
 
-use crate::model::{self, PLAIN, full};
+use crate::model::{self, PLAIN, full, record_size, words_for};
 use crate::support::calls::{day_of, join, read, tidy};
-use crate::support::days::random_day;
+use crate::support::days::{about_whole_words, random_day};
 use crate::support::handed::Handed;
 use crate::support::logs::{damage, long, random_log};
 use crate::support::random::Random;
@@ -24,10 +24,15 @@ fn near(random: &mut Random, exact: usize) -> usize {
     }
 }
 
+/// A number of badges: mostly up to so many, and in one of 20 cases about as many as a word holds, or two words.
+fn some_badges(random: &mut Random, few: usize) -> usize {
+    if random.below(20) == 0 { about_whole_words(random) } else { 1 + random.below(few) }
+}
+
 /// Read and tidy, lent about as much as they need; and the tidy log.
 fn compare_log(random: &mut Random, log: &[u8]) {
     let day = day_of(log, usize::MAX).map(|(day, _)| day);
-    let lent = near(random, day.as_ref().map_or(20, |day| day.n * day.ticks));
+    let lent = near(random, day.as_ref().map_or(40, |day| words_for(day.n, day.ticks)));
     let room = near(random, day.as_ref().map_or(30, |day| 10 + 6 * day.runs().len()));
     _ = read(log, lent);
     if let Ok(tidied) = tidy(log, lent, room) {
@@ -48,7 +53,7 @@ fn compare_random_log(random: &mut Random, n: usize, ticks: usize, most: usize) 
 fn logs() {
     let mut random = Random(1);
     for i in 0..200_000 {
-        let (n, ticks) = (1 + random.below(7), 1 + random.below(6));
+        let (n, ticks) = (some_badges(&mut random, 7), 1 + random.below(6));
         compare_random_log(&mut random, n, ticks, if i % 1000 == 0 { 8000 } else { 12 });
     }
     all_seen("read", &[1, 2, 3, 4, 6, 7, 8]);
@@ -58,9 +63,9 @@ fn logs() {
 #[test]
 fn logs_of_all_sizes() {
     let mut random = Random(2);
-    for n in 1..=64 {
-        for ticks in 1..=96 {
-            let most = if ticks % 96 == n { 8000 } else { 40 };
+    for n in 1..=128 {
+        for ticks in (1 + n % 3..=96).step_by(3) {
+            let most = if ticks == 1 + n % 96 { 8000 } else { 40 };
             compare_random_log(&mut random, n, ticks, most);
         }
     }
@@ -75,12 +80,14 @@ fn logs_of_all_sizes() {
 #[test]
 fn longest_logs() {
     let mut random = Random(3);
-    let contacts: Vec<[u8; 4]> = (0..8001).map(|i| [(i % 63) as u8, 63, (i % 96) as u8, 95]).collect();
-    for count in [7999, 8000, 8001] {
-        let log = model::log_bytes(64, 96, &contacts[..count]);
-        for cut in 0..14 {
-            compare_log(&mut random, &log[..log.len() - cut]);
-            compare_log(&mut random, &log);
+    for n in [64, 128u8] {
+        let contacts: Vec<[u8; 4]> = (0..8001).map(|i| [(i % (n as usize - 1)) as u8, n - 1, (i % 96) as u8, 95]).collect();
+        for count in [7999, 8000, 8001] {
+            let log = model::log_bytes(n, 96, &contacts[..count]);
+            for cut in 0..14 {
+                compare_log(&mut random, &log[..log.len() - cut]);
+                compare_log(&mut random, &log);
+            }
         }
     }
     all_seen("read", &[1, 5, 8]);
@@ -106,7 +113,7 @@ fn compare_random_receivers(random: &mut Random, n: usize, ticks: usize, most: u
         let at = random.below(lengths.len());
         lengths[at] ^= 1 << random.below(64);
     }
-    let (mut lent, mut work) = (n * ticks, logs.len() * n * ticks);
+    let (mut lent, mut work) = (words_for(n, ticks), logs.len() * words_for(n, ticks));
     if random.below(2) == 0 {
         lent = near(random, lent);
     } else {
@@ -119,24 +126,22 @@ fn compare_random_receivers(random: &mut Random, n: usize, ticks: usize, most: u
 fn receivers() {
     let mut random = Random(7);
     for _ in 0..40_000 {
-        let (n, ticks) = (1 + random.below(7), 1 + random.below(6));
+        let (n, ticks) = (some_badges(&mut random, 7), 1 + random.below(6));
         compare_random_receivers(&mut random, n, ticks, 100);
     }
-    assert_eq!(join_all(&[long(4, 3, 8000), long(4, 3, 8001)], 1, 12, 24), Err((5, 96014)));
+    assert_eq!(join_all(&[long(4, 3, 8000), long(4, 3, 8001)], 1, 24, 48), Err((5, 96014)));
     all_seen("join", &[1, 2, 3, 4, 5, 6, 7, 8, 18, 19]);
 }
 
-/// Every number of ticks and every number of badges, in two pairings; and the largest.
+/// Every number of ticks and every number of badges; and the largest.
 #[test]
 fn receivers_of_all_sizes() {
     let mut random = Random(8);
-    for step in [7, 63] {
-        for ticks in 1..=96 {
-            compare_random_receivers(&mut random, 1 + step * ticks % 64, ticks, 8000);
-        }
+    for n in 1..=128 {
+        compare_random_receivers(&mut random, n, 1 + 7 * n % 96, 8000);
     }
-    for _ in 0..20 {
-        compare_random_receivers(&mut random, 64, 96, 8000);
+    for n in [64, 128].repeat(6) {
+        compare_random_receivers(&mut random, n, 96, 8000);
     }
 }
 
@@ -146,7 +151,7 @@ fn about_below(random: &mut Random, count: usize) -> usize {
 }
 
 /// Every call on words, into buffers of about the exact size, and the report into larger ones.
-fn compare_words(random: &mut Random, words: &[u64], n: usize, ticks: usize, review: u64) {
+fn compare_words(random: &mut Random, words: &[u64], n: usize, ticks: usize, review: u128) {
     let day = Handed::reviewing(words, n, ticks, review);
     let mut room = |answer: Result<Vec<u8>, _>| near(random, answer.map_or(40, |bytes| bytes.len()));
     _ = day.write(room(day.log()));
@@ -159,13 +164,13 @@ fn compare_words(random: &mut Random, words: &[u64], n: usize, ticks: usize, rev
     let room = near(random, day.groups(least).map_or(40, |bytes| bytes.len()));
     _ = day.filtered(least, room);
     let (first, last) = (about_below(random, ticks.min(96)), about_below(random, ticks.min(96)));
-    let room = near(random, n.min(64));
+    let room = near(random, n.min(128));
     _ = day.core_numbers(first, last, room);
     let (query, parts) = (random_query(random, n, review), random_parts(random, ticks));
-    let room = near(random, 19 + 13 * parts.min(96));
+    let room = near(random, record_size(n) * (1 + parts.min(96)) + 6);
     _ = day.plan(query, parts, room);
-    let (index, start) = (about_below(random, n.min(64)), about_below(random, ticks.min(96)));
-    let room = near(random, 2 * n.min(64));
+    let (index, start) = (about_below(random, n.min(128)), about_below(random, ticks.min(96)));
+    let room = near(random, 2 * n.min(128));
     _ = day.trace(index, start, room);
 }
 
@@ -188,11 +193,11 @@ fn compare_random_day(random: &mut Random, n: usize, ticks: usize) {
             words[at] ^= 1 << random.below(64);
         }
         1 => words.truncate(random.below(words.len() + 1)),
-        2 => handed_n = [0, 65, usize::MAX, n + 1][random.below(4)],
+        2 => handed_n = [0, 129, usize::MAX, n + 1][random.below(4)],
         3 => handed_ticks = [0, 97, usize::MAX, ticks + 1][random.below(4)],
         _ => {}
     }
-    let review = if random.below(2) == 0 { full(handed_n.min(64)) } else { random_review(random, handed_n) };
+    let review = if random.below(2) == 0 { full(handed_n.min(128)) } else { random_review(random, handed_n) };
     compare_words(random, &words, handed_n, handed_ticks, review);
 }
 
@@ -200,24 +205,28 @@ fn compare_random_day(random: &mut Random, n: usize, ticks: usize) {
 fn days() {
     let mut random = Random(4);
     for i in 0..60_000 {
-        let (n, ticks) = (1 + random.below(if i % 50 == 0 { 24 } else { 8 }), 1 + random.below(if i % 50 == 0 { 20 } else { 7 }));
+        let (n, ticks) = match i % 50 {
+            0 => (1 + random.below(24), 1 + random.below(20)),
+            10 | 20 | 30 => (about_whole_words(&mut random), 1 + random.below(5)),
+            40 => (1 + random.below(128), 1 + random.below(5)),
+            _ => (1 + random.below(8), 1 + random.below(7)),
+        };
         compare_random_day(&mut random, n, ticks);
     }
-    all_seen("write", &[8, 9, 10, 11]);
+    all_seen("write", &[8, 9, 10, 11, 15]);
     all_seen("core numbers", &[8, 9, 10, 11, 12, 20]);
     all_seen("report", &[8, 9, 10, 11, 17, 20]);
     all_seen("plan", &[8, 9, 10, 11, 13, 14, 20, 21]);
     all_seen("trace", &[8, 9, 10, 11, 22]);
 }
 
-/// Every number of ticks and every number of badges, in two pairings.
+/// Every number of ticks and every number of badges, those about a whole number of words twice.
 #[test]
 fn days_of_all_sizes() {
     let mut random = Random(5);
-    for step in [7, 63] {
-        for ticks in 1..=96 {
-            compare_random_day(&mut random, 1 + step * ticks % 64, ticks);
-        }
+    for n in (1..=128).chain(60..=70).chain(120..=128) {
+        let ticks = 1 + 7 * n % 96;
+        compare_random_day(&mut random, n, ticks);
     }
 }
 
@@ -225,12 +234,14 @@ fn days_of_all_sizes() {
 #[test]
 fn largest_days() {
     let mut random = Random(6);
-    let by_chance = [(1, 0), (1, 80), (5, 80), (50, 0), (90, 80), (100, 100), (0, 0)];
-    let days = by_chance.map(|(density, keep)| random_day(&mut random, 64, 96, density, keep));
-    let teams: [_; 3] = std::array::from_fn(|_| random_teams(&mut random, 64, 96));
-    for day in days.iter().chain(&teams) {
-        compare_words(&mut random, &day.words(), 64, 96, u64::MAX);
-        let review = reviewable(&mut random, 64);
-        compare_words(&mut random, &day.words(), 64, 96, review);
+    for n in [64, 128] {
+        let by_chance = [(1, 0), (1, 80), (5, 80), (50, 0), (90, 80), (100, 100), (0, 0)];
+        let days = by_chance.map(|(density, keep)| random_day(&mut random, n, 96, density, keep));
+        let teams: [_; 2] = std::array::from_fn(|_| random_teams(&mut random, n, 96));
+        for day in days.iter().chain(&teams) {
+            compare_words(&mut random, &day.words(), n, 96, full(n));
+            let review = reviewable(&mut random, n);
+            compare_words(&mut random, &day.words(), n, 96, review);
+        }
     }
 }

@@ -17,11 +17,11 @@ fn number_of_logs() {
         for quorum in [0, 1, 2, count, count + 1, HUGE] {
             let lengths: Vec<usize> = (0..count).map(|k| if k < 2 { 34 } else { 0 }).collect();
             let logs = &[&TIDY[..], TIDY].concat()[..lengths.iter().sum()];
-            assert_eq!(join(logs, &lengths, quorum, 12, 60), Err((18, 0)));
+            assert_eq!(join(logs, &lengths, quorum, 24, 120), Err((18, 0)));
         }
     }
     for count in [1, 5, 6] {
-        assert_eq!(join_all(&vec![TIDY; count], 1, 12, 72), Err((18, 0)));
+        assert_eq!(join_all(&vec![TIDY; count], 1, 24, 144), Err((18, 0)));
     }
 }
 
@@ -31,8 +31,8 @@ fn quorums() {
     for count in 2..=4 {
         let logs = vec![TIDY; count];
         for quorum in (0..=300).chain([(1 << 16) + 1, (1 << 32) + 1, 1 << 63, HUGE - 1, HUGE]) {
-            let expected = if quorum < 1 || quorum > count { Err((18, 0)) } else { Ok((4, 3, WORDS[..12].to_vec())) };
-            assert_eq!(join_all(&logs, quorum, 12, 48), expected);
+            let expected = if quorum < 1 || quorum > count { Err((18, 0)) } else { Ok((4, 3, WORDS[..24].to_vec())) };
+            assert_eq!(join_all(&logs, quorum, 24, 96), expected);
         }
     }
 }
@@ -70,12 +70,12 @@ fn lengths_that_do_not_add_up() {
     let logs = [&TIDY[..], TIDY].concat();
     for lengths in NOT_68 {
         for quorum in [1, 2] {
-            assert_eq!(join(&logs, lengths, quorum, 12, 48), Err((18, 0)), "{lengths:?}");
+            assert_eq!(join(&logs, lengths, quorum, 24, 96), Err((18, 0)), "{lengths:?}");
         }
     }
-    assert_eq!(join(TIDY, &[HUGE, 35], 1, 12, 24), Err((18, 0)));
-    assert_eq!(join(b"", &[HUGE, 1], 1, 12, 24), Err((18, 0)));
-    assert_eq!(join(b"", &[1 << 63, 1 << 63], 1, 12, 24), Err((18, 0)));
+    assert_eq!(join(TIDY, &[HUGE, 35], 1, 24, 48), Err((18, 0)));
+    assert_eq!(join(b"", &[HUGE, 1], 1, 24, 48), Err((18, 0)));
+    assert_eq!(join(b"", &[1 << 63, 1 << 63], 1, 24, 48), Err((18, 0)));
 }
 
 /// Each log that is refused, in each place among logs of D1: its offset counts from the start of the first. Logs after it do not matter.
@@ -87,7 +87,7 @@ fn refused_logs_in_every_place() {
                 let mut logs = vec![&TIDY[..]; count];
                 logs[place] = log;
                 let refusal = Err((refusal.0, 34 * place + refusal.1));
-                assert_eq!(join_all(&logs, 1, 12, 48), refusal, "{log:?}");
+                assert_eq!(join_all(&logs, 1, 24, 96), refusal, "{log:?}");
                 logs[count - 1] = if place + 1 < count { b"X" } else { log };
                 assert_eq!(join_all(&logs, 1, 0, 0), refusal, "{log:?}");
             }
@@ -103,7 +103,7 @@ fn empty_logs() {
     for (lengths, offset) in
         [(&[34, 0, 34][..], 34), (&[0, 34], 0), (&[34, 0], 34), (&[34, 34, 0, 0], 68), (&[34, 34, 34, 0], 102), (&[0, 34, 34, 34], 0)]
     {
-        assert_eq!(join(&logs[..lengths.iter().sum()], lengths, 1, 12, 48), Err((1, offset)));
+        assert_eq!(join(&logs[..lengths.iter().sum()], lengths, 1, 24, 96), Err((1, offset)));
     }
     for count in 2..=4 {
         assert_eq!(join(b"", &vec![0; count], 1, 0, 0), Err((1, 0)));
@@ -117,25 +117,26 @@ const ONE_BADGE_MORE: &[u8] = b"BH\x05\x03CT\x00\x01\x00\x01CT\x00\x02\x00\x01CT
 /// 19: a log in any place has another n or T than the others; also where n×T is the same.
 #[test]
 fn different_shifts() {
-    for other in [ONE_TICK_MORE, ONE_BADGE_MORE, b"BH\x03\x04ED\x00\x00\x00\x00", b"BH\x04\x02ED\x00\x00\x00\x00", b"BH\x40\x60ED\x00\x00\x00\x00"] {
+    for other in [ONE_TICK_MORE, ONE_BADGE_MORE, b"BH\x03\x04ED\x00\x00\x00\x00", b"BH\x04\x02ED\x00\x00\x00\x00", b"BH\x80\x60ED\x00\x00\x00\x00"] {
         for count in 2..=4 {
             for place in 0..count {
                 let mut logs = vec![&TIDY[..]; count];
                 logs[place] = other;
-                for (lent, work) in [(6144, 24576), (12, 12 * count), (0, 0)] {
+                for (lent, work) in [(24576, 98304), (24, 24 * count), (0, 0)] {
                     assert_eq!(join_all(&logs, 1, lent, work), Err((19, 0)));
                 }
             }
         }
-        assert_eq!(join_all(&[other, TIDY, other, TIDY], 2, 6144, 24576), Err((19, 0)));
-        assert_eq!(join_all(&[other; 3], 2, 6144, 24576).map(|day| [day.0, day.1]), Ok([other[2], other[3]].map(usize::from)));
+        assert_eq!(join_all(&[other, TIDY, other, TIDY], 2, 24576, 98304), Err((19, 0)));
+        assert_eq!(join_all(&[other; 3], 2, 24576, 98304).map(|day| [day.0, day.1]), Ok([other[2], other[3]].map(usize::from)));
     }
 }
 
-/// 8: fewer than n×T words are lent, or fewer work words than that for each log. The smallest day, D1, and the largest.
+/// 8: fewer than 2×n×T words are lent, or fewer work words than that for each log. The smallest day, D1, and large ones.
 #[test]
 fn too_few_words() {
-    let days = [(&b"BH\x01\x01ED\x00\x00\x00\x00"[..], 1), (TIDY, 12), (b"BH\x40\x60ED\x00\x00\x00\x00", 6144)];
+    let largest: [&[u8]; 2] = [b"BH\x40\x60ED\x00\x00\x00\x00", b"BH\x80\x60ED\x00\x00\x00\x00"];
+    let days = [(&b"BH\x01\x01ED\x00\x00\x00\x00"[..], 2), (TIDY, 24), (largest[0], 12288), (largest[1], 24576)];
     for (log, size) in days {
         for count in 2..=4 {
             let logs = vec![log; count];
@@ -158,27 +159,27 @@ const CUT: &[u8] = b"BH\x04\x03CT\x00\x01";
 type Case = (&'static [&'static [u8]], usize, usize, usize, Refusal);
 
 const SEVERAL: &[Case] = &[
-    (&[REFUSED], 1, 12, 48, (18, 0)),
-    (&[TIDY, TIDY, TIDY, TIDY, REFUSED], 1, 12, 60, (18, 0)),
-    (&[REFUSED, TIDY], 0, 12, 24, (18, 0)),
-    (&[TIDY, REFUSED], 3, 12, 24, (18, 0)),
-    (&[TIDY, b""], 3, 12, 24, (18, 0)),
-    (&[TIDY, ONE_TICK_MORE], 3, 99, 99, (18, 0)),
+    (&[REFUSED], 1, 24, 96, (18, 0)),
+    (&[TIDY, TIDY, TIDY, TIDY, REFUSED], 1, 24, 120, (18, 0)),
+    (&[REFUSED, TIDY], 0, 24, 48, (18, 0)),
+    (&[TIDY, REFUSED], 3, 24, 48, (18, 0)),
+    (&[TIDY, b""], 3, 24, 48, (18, 0)),
+    (&[TIDY, ONE_TICK_MORE], 3, 199, 199, (18, 0)),
     (&[TIDY, TIDY], 0, 0, 0, (18, 0)),
     (&[TIDY], 2, 0, 0, (18, 0)),
     (&[CUT, ONE_TICK_MORE, REFUSED], HUGE, 0, 0, (18, 0)),
-    (&[CUT, REFUSED], 1, 12, 24, (1, 4)),
-    (&[REFUSED, CUT], 1, 12, 24, (4, 4)),
-    (&[TIDY, REFUSED, CUT], 1, 12, 36, (4, 38)),
-    (&[TIDY, CUT, REFUSED], 1, 12, 36, (1, 38)),
-    (&[ONE_TICK_MORE, REFUSED], 1, 99, 99, (4, 38)),
-    (&[TIDY, ONE_TICK_MORE, REFUSED], 1, 99, 99, (4, 72)),
-    (&[TIDY, ONE_BADGE_MORE, TIDY, CUT], 1, 99, 99, (1, 106)),
-    (&[TIDY, ONE_BADGE_MORE, b""], 1, 99, 99, (1, 68)),
+    (&[CUT, REFUSED], 1, 24, 48, (1, 4)),
+    (&[REFUSED, CUT], 1, 24, 48, (4, 4)),
+    (&[TIDY, REFUSED, CUT], 1, 24, 72, (4, 38)),
+    (&[TIDY, CUT, REFUSED], 1, 24, 72, (1, 38)),
+    (&[ONE_TICK_MORE, REFUSED], 1, 199, 199, (4, 38)),
+    (&[TIDY, ONE_TICK_MORE, REFUSED], 1, 199, 199, (4, 72)),
+    (&[TIDY, ONE_BADGE_MORE, TIDY, CUT], 1, 199, 199, (1, 106)),
+    (&[TIDY, ONE_BADGE_MORE, b""], 1, 199, 199, (1, 68)),
     (&[TIDY, REFUSED], 2, 0, 0, (4, 38)),
     (&[TIDY, ONE_TICK_MORE, REFUSED], 1, 0, 0, (4, 72)),
-    (&[TIDY, ONE_TICK_MORE], 1, 11, 24, (19, 0)),
-    (&[TIDY, ONE_TICK_MORE], 1, 12, 23, (19, 0)),
+    (&[TIDY, ONE_TICK_MORE], 1, 23, 48, (19, 0)),
+    (&[TIDY, ONE_TICK_MORE], 1, 24, 47, (19, 0)),
     (&[ONE_BADGE_MORE, TIDY, TIDY], 3, 0, 0, (19, 0)),
 ];
 
@@ -188,8 +189,8 @@ fn several_rules_broken() {
         assert_eq!(join_all(logs, quorum, lent, work), Err(refusal));
     }
     // lengths that do not add up, over logs that are refused
-    assert_eq!(join(&[REFUSED, TIDY].concat(), &[16, 35], 1, 12, 24), Err((18, 0)));
+    assert_eq!(join(&[REFUSED, TIDY].concat(), &[16, 35], 1, 24, 48), Err((18, 0)));
     assert_eq!(join(&[CUT, REFUSED].concat(), &[0, 0], 1, 0, 0), Err((18, 0)));
-    assert_eq!(join(&[TIDY, ONE_TICK_MORE].concat(), &[34, 33], 1, 99, 99), Err((18, 0)));
+    assert_eq!(join(&[TIDY, ONE_TICK_MORE].concat(), &[34, 33], 1, 199, 199), Err((18, 0)));
     all_seen("join", &[1, 4, 18, 19]);
 }

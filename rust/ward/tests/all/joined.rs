@@ -1,7 +1,7 @@
 //! The joined day: laws of its words over random logs, and what the calls on words make of it.
 
-use crate::model::log_bytes;
-use crate::support::days::{day_by, log_of, runs_by_pair, runs_by_tick, words_of_runs};
+use crate::model::{log_bytes, words_for};
+use crate::support::days::{about_whole_words, day_by, log_of, runs_by_pair, runs_by_tick, words_of_runs};
 use crate::support::handed::Handed;
 use crate::support::random::Random;
 use crate::support::receivers::{join_all, random_receivers};
@@ -11,13 +11,13 @@ use crate::tidying::settles;
 /// The words that join leaves of these logs.
 fn words_joined(logs: &[impl AsRef<[u8]>], quorum: usize) -> Vec<u64> {
     let log = logs[0].as_ref();
-    let size = log[2] as usize * log[3] as usize;
+    let size = words_for(log[2].into(), log[3].into());
     join_all(logs, quorum, size, logs.len() * size).expect("a day").2
 }
 
 /// The words that read leaves of a log.
 fn words_read(log: &[u8]) -> Vec<u64> {
-    let mut words = vec![0; log[2] as usize * log[3] as usize];
+    let mut words = vec![0; words_for(log[2].into(), log[3].into())];
     ward::read(log, &mut words).expect("a good log");
     words
 }
@@ -26,8 +26,11 @@ fn words_read(log: &[u8]) -> Vec<u64> {
 fn for_random_receivers(seed: u64, law: impl Fn(&mut Random, &[Vec<u8>])) {
     let mut random = Random(seed);
     for i in 0..1000 {
-        let most = if i % 50 == 0 { 24 } else { 8 };
-        let (n, ticks) = (1 + random.below(most), 1 + random.below(most));
+        let (n, ticks) = match i % 50 {
+            0 => (1 + random.below(24), 1 + random.below(24)),
+            25 => (about_whole_words(&mut random), 1 + random.below(5)),
+            _ => (1 + random.below(8), 1 + random.below(8)),
+        };
         let logs = random_receivers(&mut random, n, ticks, 2000);
         law(&mut random, &logs);
     }
@@ -85,8 +88,8 @@ fn one_log_of(logs: &[Vec<u8>]) -> Vec<u8> {
 fn all_records_in_one_log() {
     for_random_receivers(84, |_, logs| assert_eq!(words_joined(logs, 1), words_read(&one_log_of(logs))));
     let mut random = Random(85);
-    for _ in 0..20 {
-        let logs = random_receivers(&mut random, 64, 96, 2000);
+    for n in [64, 128].repeat(8) {
+        let logs = random_receivers(&mut random, n, 96, 2000);
         assert_eq!(words_joined(&logs, 1), words_read(&one_log_of(&logs)));
     }
 }
@@ -94,7 +97,7 @@ fn all_records_in_one_log() {
 /// The ticks of a trace of a day's words, from the last badge at the first tick.
 fn ticks_reached(words: &[u64], n: usize) -> Vec<u8> {
     let mut trace = vec![0; 2 * n];
-    assert_eq!(ward::trace(words, n, words.len() / n, n - 1, 0, &mut trace), Ok(2 * n));
+    assert_eq!(ward::trace(words, n, words.len() / (2 * n), n - 1, 0, &mut trace), Ok(2 * n));
     trace.truncate(n);
     trace
 }
@@ -113,7 +116,7 @@ fn traces_of_joined_days() {
 }
 
 /// Every call on words takes the words of a joined day. Write may refuse it by 15, and else gives a log that reads as the same words.
-fn is_taken(words: &[u64], n: usize, ticks: usize, queries: &[u64]) {
+fn is_taken(words: &[u64], n: usize, ticks: usize, queries: &[u128]) {
     let day = Handed::new(words, n, ticks);
     match day.write(ward::LOG_BYTES) {
         Ok(log) => {
@@ -143,25 +146,25 @@ fn days_of_random_receivers() {
     });
 }
 
-/// Write refuses a day of 64 badges and 96 ticks exactly where it has more than 8,000 runs.
-fn has_runs(words: &[u64], count: usize) {
-    let refused = Handed::new(words, 64, 96).write(ward::LOG_BYTES).err();
+/// Write refuses a day of n badges and 96 ticks exactly where it has more than 8,000 runs.
+fn has_runs(words: &[u64], n: usize, count: usize) {
+    let refused = Handed::new(words, n, 96).write(ward::LOG_BYTES).err();
     assert_eq!(refused, (count > 8000).then_some((15, 0)));
 }
 
 /// Two receivers that hear so many runs of one tick each, none of them the same: one of them heard all, and both none.
 #[test]
 fn more_runs_than_a_log_can_have() {
-    let log = |runs: &[(usize, usize, usize)]| log_bytes(64, 96, &runs.iter().map(|&(t, u, v)| [u, v, t, t].map(|x| x as u8)).collect::<Vec<_>>());
-    for (first, second) in [(4000, 4000), (1, 8000), (8000, 8000), (5000, 5000)] {
-        for runs in [runs_by_pair().take(first + second).collect::<Vec<_>>(), runs_by_tick().take(first + second).collect()] {
-            let logs = [log(&runs[..first]), log(&runs[first..])];
+    let contacts = |runs: &[(usize, usize, usize)]| runs.iter().map(|&(t, u, v)| [u, v, t, t].map(|x| x as u8)).collect::<Vec<_>>();
+    for (n, first, second) in [(64, 4000, 4000), (64, 1, 8000), (64, 8000, 8000), (64, 5000, 5000), (128, 4000, 4001), (128, 5000, 5000)] {
+        for runs in [runs_by_pair(n).take(first + second).collect::<Vec<_>>(), runs_by_tick(n).take(first + second).collect()] {
+            let logs = [&runs[..first], &runs[first..]].map(|runs| log_bytes(n as u8, 96, &contacts(runs)));
             let words = words_joined(&logs, 1);
-            assert_eq!(words, words_of_runs(runs.into_iter()));
-            has_runs(&words, first + second);
-            assert_eq!(words_joined(&logs, 2), [0; 6144]);
+            assert_eq!(words, words_of_runs(n, runs.into_iter()));
+            has_runs(&words, n, first + second);
+            assert_eq!(words_joined(&logs, 2), vec![0; words_for(n, 96)]);
             if first == 5000 {
-                is_taken(&words, 64, 96, &[0, 1 << 8]);
+                is_taken(&words, n, 96, &[0, 1 << 8]);
             }
         }
     }
@@ -172,12 +175,12 @@ fn more_runs_than_a_log_can_have() {
 /// tick, which makes 48 runs a pair, and one of them every tick, which makes one.
 #[test]
 fn more_runs_than_either_log_has() {
-    let but = |missed: usize| day_by(64, 96, |t, u, v| u < 20 && (20..36).contains(&v) && t % 4 != missed);
+    let but = |missed: usize| day_by(128, 96, |t, u, v| (60..80).contains(&u) && (80..96).contains(&v) && t % 4 != missed);
     let logs = [but(1), but(3)].map(|day| log_of(&day));
     assert_eq!(logs.each_ref().map(Vec::len), [10 + 6 * 25 * 320, 10 + 6 * 24 * 320]);
     let words = words_joined(&logs, 2);
-    has_runs(&words, 48 * 320);
-    is_taken(&words, 64, 96, &[0, 1 << 20]);
-    has_runs(&words_joined(&logs, 1), 320);
+    has_runs(&words, 128, 48 * 320);
+    is_taken(&words, 128, 96, &[0, 1 << 80]);
+    has_runs(&words_joined(&logs, 1), 128, 320);
     all_seen("write", &[15]);
 }

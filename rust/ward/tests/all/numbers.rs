@@ -4,6 +4,7 @@ use crate::support::d1::{d1, turned};
 use crate::support::days::day_by;
 use crate::support::handed::Handed;
 use crate::support::random::Random;
+use crate::support::sets::words_of;
 
 /// Document 01 has the spans 0 to 1 and 0 to 2.
 #[test]
@@ -11,7 +12,7 @@ fn spans_of_d1() {
     for (first, last, numbers) in
         [(0, 0, [2, 2, 2, 1]), (0, 1, [2, 2, 2, 1]), (0, 2, [0, 0, 1, 1]), (1, 1, [2, 2, 2, 1]), (1, 2, [0, 0, 1, 1]), (2, 2, [0, 0, 1, 1])]
     {
-        for lent in [12, 14] {
+        for lent in [24, 26] {
             assert_eq!(d1(lent).core_numbers(first, last, 80), Ok(numbers.to_vec()));
         }
     }
@@ -20,7 +21,7 @@ fn spans_of_d1() {
 /// Three badges of which the first changes its partner: 0–1 in tick 0, 0–2 in tick 1. That counts for no span that has both ticks.
 #[test]
 fn partner_that_changes() {
-    let day = Handed::new(&[2, 1, 0, 4, 0, 1], 3, 2);
+    let day = Handed::new(&words_of(&[2, 1, 0, 4, 0, 1]), 3, 2);
     assert_eq!(day.core_numbers(0, 0, 3), Ok(vec![1, 1, 0]));
     assert_eq!(day.core_numbers(1, 1, 3), Ok(vec![1, 0, 1]));
     assert_eq!(day.core_numbers(0, 1, 3), Ok(vec![0, 0, 0]));
@@ -31,16 +32,17 @@ fn partner_that_changes() {
 fn every_buffer() {
     for room in 0..=80 {
         let numbers = if room < 4 { Err((9, 0)) } else { Ok(vec![2, 2, 2, 1]) };
-        assert_eq!(d1(12).core_numbers(0, 1, room), numbers);
+        assert_eq!(d1(24).core_numbers(0, 1, room), numbers);
     }
 }
 
-/// Each bit of word 12 turned over, which is after D1's words; and of word 8, after the words of its first two ticks.
+/// Each bit of word 24 turned over, which is after D1's words; and of words 16 and 17, after the words of its first two ticks.
 #[test]
 fn words_after_the_day() {
     for v in 0..64 {
-        assert_eq!(Handed::new(&turned(12, v)[..13], 4, 3).core_numbers(0, 1, 4), Ok(vec![2, 2, 2, 1]));
-        assert_eq!(Handed::new(&turned(8, v), 4, 2).core_numbers(0, 1, 4), Ok(vec![2, 2, 2, 1]));
+        assert_eq!(Handed::new(&turned(24, v)[..25], 4, 3).core_numbers(0, 1, 4), Ok(vec![2, 2, 2, 1]));
+        assert_eq!(Handed::new(&turned(16, v), 4, 2).core_numbers(0, 1, 4), Ok(vec![2, 2, 2, 1]));
+        assert_eq!(Handed::new(&turned(17, v), 4, 2).core_numbers(0, 1, 4), Ok(vec![2, 2, 2, 1]));
     }
 }
 
@@ -76,14 +78,14 @@ impl Shape {
         words.extend((0..random.below(100)).map(|_| random.next()));
         let day = Handed::new(&words, self.badges, ticks);
         let numbers: Vec<u8> = (0..self.badges).map(|u| self.number(u)).collect();
-        assert_eq!(day.core_numbers(0, ticks - 1, 80), Ok(numbers.clone()));
-        assert_eq!(day.core_numbers(ticks - 1, ticks - 1, 64), Ok(numbers));
+        assert_eq!(day.core_numbers(0, ticks - 1, 140), Ok(numbers.clone()));
+        assert_eq!(day.core_numbers(ticks - 1, ticks - 1, self.badges), Ok(numbers));
     }
 }
 
 fn shapes(from: usize, clique: impl Fn(usize) -> usize, ring: bool) {
     let mut random = Random(31);
-    for badges in from..=64 {
+    for badges in from..=128 {
         let shape = Shape { badges, clique: clique(badges), ring };
         for ticks in 1..=3 {
             shape.has_its_numbers(&mut random, ticks);
@@ -110,9 +112,11 @@ fn cliques() {
 }
 
 #[test]
-fn all_64_in_contact() {
-    let shape = Shape { badges: 64, clique: 64, ring: false };
-    for ticks in [1, 2, 96] {
-        shape.has_its_numbers(&mut Random(32), ticks);
+fn all_in_contact() {
+    for badges in [64, 65, 128] {
+        let shape = Shape { badges, clique: badges, ring: false };
+        for ticks in [1, 2, 96] {
+            shape.has_its_numbers(&mut Random(32), ticks);
+        }
     }
 }

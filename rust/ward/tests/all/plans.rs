@@ -5,6 +5,7 @@ use crate::support::d1::{d1, turned};
 use crate::support::days::random_day;
 use crate::support::handed::Handed;
 use crate::support::random::Random;
+use crate::support::sets::{random_set, words_of};
 
 /// One part around {0}: score 0, and all four badges.
 const D1: &[u8; 32] = b"PH\x04\x03\x01\x01\x00\x00\x00\x00\x00\x00\x00\
@@ -42,18 +43,20 @@ fn ends(plan: &[u8]) -> Vec<usize> {
 fn d1_into_every_buffer() {
     for room in 0..=80 {
         let plan = if room < 32 { Err((9, 0)) } else { Ok(D1.to_vec()) };
-        for lent in 12..=14 {
+        for lent in 24..=26 {
             assert_eq!(d1(lent).plan(0b0001, 1, room), plan);
         }
     }
 }
 
-/// Each bit of word 12 turned over, which is after D1's words; and of word 8, after the words of its first two ticks.
+/// Each bit of word 24 turned over, which is after D1's words; and of words 16 and 17, after the words of its first two ticks.
 #[test]
 fn words_after_the_day() {
     for v in 0..64 {
-        assert_eq!(Handed::new(&turned(12, v)[..13], 4, 3).plan(0b0001, 1, 36), Ok(D1.to_vec()));
-        assert_eq!(Handed::new(&turned(8, v)[..13], 4, 2).plan(0b0001, 1, 36), Ok(D1_OF_TWO_TICKS.to_vec()));
+        assert_eq!(Handed::new(&turned(24, v)[..25], 4, 3).plan(0b0001, 1, 36), Ok(D1.to_vec()));
+        for place in [16, 17] {
+            assert_eq!(Handed::new(&turned(place, v)[..25], 4, 2).plan(0b0001, 1, 36), Ok(D1_OF_TWO_TICKS.to_vec()));
+        }
     }
 }
 
@@ -85,19 +88,19 @@ const ENDS: [&[usize]; 3] = [&[2], &[0, 2], &[0, 1, 2]];
 fn all_queries_of_d1() {
     for (query, sums) in SUMS.iter().enumerate() {
         for (i, expected) in sums.iter().enumerate() {
-            let plan = d1(12).plan(query as u64, i + 1, 80).expect("a plan");
+            let plan = d1(24).plan(query as u128, i + 1, 80).expect("a plan");
             assert_eq!((sum(&plan), &ends(&plan)[..]), (*expected, ENDS[i]));
         }
     }
-    assert_eq!(d1(12).plan(0b0100, 2, 45), Ok(D1_IN_TWO_PARTS.to_vec()));
-    assert_eq!(d1(12).plan(0b0100, 4, 80), Err((14, 0)));
+    assert_eq!(d1(24).plan(0b0100, 2, 45), Ok(D1_IN_TWO_PARTS.to_vec()));
+    assert_eq!(d1(24).plan(0b0100, 4, 80), Err((14, 0)));
 }
 
 /// 0–1 in ticks 0 to 3, 0–2 and 1–2 in tick 2, and 0–2 in tick 4. Around 0 in three parts the ends 0, 3, 4 and 1, 2, 4 and 1, 3, 4 and 2, 3, 4 all
 /// have the sum 3: compared from the end, 1, 2, 4 would come first.
 #[test]
 fn compared_from_the_first_number_on() {
-    let words = [0b010, 0b001, 0, 0b010, 0b001, 0, 0b110, 0b101, 0b011, 0b010, 0b001, 0, 0b100, 0, 0b001];
+    let words = words_of(&[0b010, 0b001, 0, 0b010, 0b001, 0, 0b110, 0b101, 0b011, 0b010, 0b001, 0, 0b100, 0, 0b001]);
     let plan = Handed::new(&words, 3, 5).plan(0b001, 3, 58).expect("a plan");
     assert_eq!((sum(&plan), ends(&plan)), (3, vec![0, 3, 4]));
 }
@@ -111,7 +114,7 @@ fn the_first_of_the_best() {
     for _ in 0..4000 {
         let (n, ticks) = (4 + random.below(4), 7 + random.below(4));
         let day = random_day(&mut random, n, ticks, 70, 50);
-        let (query, h) = (random.next() & random.next() & random.next() & full(n), 3 + random.below(ticks - 4));
+        let (query, h) = (random_set(&mut random, 4) & full(n), 3 + random.below(ticks - 4));
         let plan = Handed::new(&day.words(), n, ticks).plan(query, h, 19 + 13 * h).expect("a plan");
         let best = Cores::of(&day, full(n)).all_best(query, h);
         let from_the_end = best.iter().min_by_key(|ends| ends.iter().rev().collect::<Vec<_>>());

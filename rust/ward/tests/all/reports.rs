@@ -2,6 +2,7 @@
 
 use crate::support::d1::{d1, turned};
 use crate::support::handed::Handed;
+use crate::support::sets::words_of;
 
 pub const D1: &[u8; 36] = b"RH\x04\x03\
     GR\x02\x00\x01\x07\x00\x00\x00\x00\x00\x00\x00\
@@ -18,18 +19,20 @@ const D1_OF_TWO_TICKS: &[u8; 23] = b"RH\x04\x02\
 fn d1_into_every_buffer() {
     for room in 0..=80 {
         let report = if room < 36 { Err((9, 0)) } else { Ok(D1.to_vec()) };
-        for lent in 12..=14 {
+        for lent in 24..=26 {
             assert_eq!(d1(lent).report(room), report);
         }
     }
 }
 
-/// Each bit of word 12 turned over, which is after D1's words; and of word 8, after the words of its first two ticks.
+/// Each bit of word 24 turned over, which is after D1's words; and of words 16 and 17, after the words of its first two ticks.
 #[test]
 fn words_after_the_day() {
     for v in 0..64 {
-        assert_eq!(Handed::new(&turned(12, v)[..13], 4, 3).report(36), Ok(D1.to_vec()));
-        assert_eq!(Handed::new(&turned(8, v)[..13], 4, 2).report(36), Ok(D1_OF_TWO_TICKS.to_vec()));
+        assert_eq!(Handed::new(&turned(24, v)[..25], 4, 3).report(36), Ok(D1.to_vec()));
+        for place in [16, 17] {
+            assert_eq!(Handed::new(&turned(place, v)[..25], 4, 2).report(36), Ok(D1_OF_TWO_TICKS.to_vec()));
+        }
     }
 }
 
@@ -40,5 +43,5 @@ fn partner_that_changes() {
         GR\x01\x00\x00\x03\x00\x00\x00\x00\x00\x00\x00\
         GR\x01\x01\x01\x05\x00\x00\x00\x00\x00\x00\x00\
         ED\x02\x00\x00\x00";
-    assert_eq!(Handed::new(&[2, 1, 0, 4, 0, 1], 3, 2).report(36), Ok(report.to_vec()));
+    assert_eq!(Handed::new(&words_of(&[2, 1, 0, 4, 0, 1]), 3, 2).report(36), Ok(report.to_vec()));
 }

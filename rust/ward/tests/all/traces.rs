@@ -10,6 +10,7 @@ use crate::support::handed::Handed;
 use crate::support::lent::Lent;
 use crate::support::random::Random;
 use crate::support::seen::all_seen;
+use crate::support::sets::words_of;
 
 /// D1 from every badge at every tick: four ticks, then four sources. From badge 3 at tick 0, for one, badge 2 is reached in tick 0 by badge 3, and
 /// badges 0 and 1 in tick 1 by badge 2; in tick 2 badges 2 and 3 alone are in contact.
@@ -27,7 +28,7 @@ fn d1_into_every_buffer() {
         for (start, trace) in traces.iter().enumerate() {
             for room in 0..=80 {
                 let expected = if room < 8 { Err((9, 0)) } else { Ok(trace.to_vec()) };
-                assert_eq!(d1(12 + room % 3).trace(index, start, room), expected);
+                assert_eq!(d1(24 + room % 3).trace(index, start, room), expected);
             }
         }
     }
@@ -44,20 +45,22 @@ fn logs_of_d1() {
     }
 }
 
-/// Each bit of word 12 turned over, which is after D1's words; and of word 8, after the words of its first two ticks.
+/// Each bit of word 24 turned over, which is after D1's words; and of words 16 and 17, after the words of its first two ticks.
 #[test]
 fn words_after_the_day() {
     for v in 0..64 {
-        assert_eq!(Handed::new(&turned(12, v)[..13], 4, 3).trace(3, 0, 8), Ok(OF_D1[3][0].to_vec()));
-        assert_eq!(Handed::new(&turned(8, v), 4, 2).trace(3, 0, 8), Ok(OF_D1[3][0].to_vec()));
-        assert_eq!(Handed::new(&turned(8, v), 4, 2).trace(0, 1, 8), Ok(vec![1, 1, 1, 255, 255, 0, 0, 255]));
+        assert_eq!(Handed::new(&turned(24, v)[..25], 4, 3).trace(3, 0, 8), Ok(OF_D1[3][0].to_vec()));
+        for place in [16, 17] {
+            assert_eq!(Handed::new(&turned(place, v), 4, 2).trace(3, 0, 8), Ok(OF_D1[3][0].to_vec()));
+            assert_eq!(Handed::new(&turned(place, v), 4, 2).trace(0, 1, 8), Ok(vec![1, 1, 1, 255, 255, 0, 0, 255]));
+        }
     }
 }
 
 /// As index and as start each value up to 260, and large ones: of D1, and of one badge in one tick.
 #[test]
 fn every_value() {
-    for (day, n, ticks) in [(d1(12), 4, 3), (Handed::new(&[0], 1, 1), 1, 1)] {
+    for (day, n, ticks) in [(d1(24), 4, 3), (Handed::new(&[0, 0], 1, 1), 1, 1)] {
         for value in (0..=260).chain([1 << 32, (1 << 32) + 2, 1 << 63, usize::MAX - 1, usize::MAX]) {
             let number = |index, start| day.trace(index, start, 8).map_or_else(|refusal| refusal.0, |_| 0);
             assert_eq!(number(value, 0), if value < n { 0 } else { 22 });
@@ -67,13 +70,13 @@ fn every_value() {
     all_seen("trace", &[22]);
 }
 
-/// Days of every size: the last badge and the last tick are taken, and those after them are refused.
+/// Days of every number of badges, and of many numbers of ticks: the last badge and the last tick are taken, and those after them are refused.
 #[test]
 fn every_size() {
-    let words = [0; 6144];
-    for n in 1..=64 {
-        for ticks in 1..=96 {
-            let number = |index, start| ward::trace(&words, n, ticks, index, start, &mut [0; 128]).map_or_else(|r| r.refusal.number(), |_| 0);
+    let words = vec![0; ward::WORDS];
+    for n in 1..=128 {
+        for ticks in (1..=96).filter(|ticks| [1, 2, 95, 96].contains(ticks) || (ticks + n) % 3 == 0) {
+            let number = |index, start| ward::trace(&words, n, ticks, index, start, &mut [0; 256]).map_or_else(|r| r.refusal.number(), |_| 0);
             assert_eq!([number(n - 1, ticks - 1), number(n, ticks - 1), number(n - 1, ticks)], [0, 22, 22]);
         }
     }
@@ -85,7 +88,7 @@ fn anything_at_all() {
     let mut random = Random(110);
     for _ in 0..40_000 {
         let (n, ticks, clear) = (any_number(&mut random), any_number(&mut random), random.below(4) != 0);
-        let words: Vec<u64> = (0..random.below(60)).map(|_| if clear { 0 } else { random.next() }).collect();
+        let words: Vec<u64> = (0..random.below(120)).map(|_| if clear { 0 } else { random.next() }).collect();
         let [index, start] = [0, 1].map(|_| any_number(&mut random).wrapping_sub(1));
         _ = Handed::new(&words, n, ticks).trace(index, start, random.below(16));
     }
@@ -166,27 +169,30 @@ fn when_the_index_passes_on() {
     assert_eq!(day().trace(0, 2, 10), Ok(vec![2, 255, 2, 4, 255, 255, 255, 0, 0, 255]));
     assert_eq!(day().trace(0, 3, 10), Ok(vec![3, 255, 255, 4, 255, 255, 255, 255, 0, 255]));
     assert_eq!(day().trace(0, 4, 10), Ok(vec![4, 255, 255, 4, 255, 255, 255, 255, 0, 255]));
-    assert_eq!(Handed::new(&[0b11, 0b01], 2, 1).trace(0, 0, 4), Err((11, 0)));
-    assert_eq!(Handed::new(&[0b01, 0b00], 2, 1).trace(0, 0, 4), Err((11, 0)));
+    assert_eq!(Handed::new(&words_of(&[0b11, 0b01]), 2, 1).trace(0, 0, 4), Err((11, 0)));
+    assert_eq!(Handed::new(&words_of(&[0b01, 0b00]), 2, 1).trace(0, 0, 4), Err((11, 0)));
 }
 
 /// The tick and the source of a badge that is never reached.
 const NEVER: (usize, usize) = (255, 255);
 
-/// The traces of a day of 64 badges and 96 ticks have the tick and the source that a rule gives for an index, a start and another badge: from every
-/// badge at every 19th tick, and from every 9th badge at every tick. Those from the first badge and the last, at the first tick and the last, are
-/// compared with the model, too.
+/// The numbers of badges of the days below.
+const SIZES: [usize; 3] = [64, 65, 128];
+
+/// The traces of a day of 96 ticks have the tick and the source that a rule gives for an index, a start and another badge: from every badge at every
+/// 19th tick, and from every 21st badge at every tick. Those from the first badge and the last, at the first tick and the last, are compared with the
+/// model, too.
 fn by_rule(day: Day, rule: impl Fn(usize, usize, usize) -> (usize, usize)) {
-    let (words, handed) = (day.words(), Handed::new(&day.words(), 64, 96));
-    for index in 0..64 {
-        for start in (0..96).filter(|start| index % 9 == 0 || start % 19 == 0) {
-            let badges: Vec<(usize, usize)> = (0..64).map(|u| if u == index { (start, 255) } else { rule(index, start, u) }).collect();
+    let (n, words, handed) = (day.n, day.words(), Handed::new(&day.words(), day.n, 96));
+    for index in 0..n {
+        for start in (0..96).filter(|start| index % 21 == 0 || start % 19 == 0) {
+            let badges: Vec<(usize, usize)> = (0..n).map(|u| if u == index { (start, 255) } else { rule(index, start, u) }).collect();
             let trace: Vec<u8> = badges.iter().map(|badge| badge.0 as u8).chain(badges.iter().map(|badge| badge.1 as u8)).collect();
-            let mut out = Lent::room(130);
-            assert_eq!(ward::trace(&words, 64, 96, index, start, out.slice()), Ok(128));
+            let mut out = Lent::room(2 * n + 2);
+            assert_eq!(ward::trace(&words, n, 96, index, start, out.slice()), Ok(2 * n));
             out.holds(&trace);
-            if index % 63 == 0 && start % 95 == 0 {
-                assert_eq!(handed.trace(index, start, 128), Ok(trace));
+            if index % (n - 1) == 0 && start % 95 == 0 {
+                assert_eq!(handed.trace(index, start, 2 * n), Ok(trace));
             }
         }
     }
@@ -195,60 +201,87 @@ fn by_rule(day: Day, rule: impl Fn(usize, usize, usize) -> (usize, usize)) {
 /// All in contact: everyone is reached at once, by the index. Nobody in contact: nobody is ever reached.
 #[test]
 fn all_in_contact_or_nobody() {
-    by_rule(day_by(64, 96, |_, _, _| true), |index, start, _| (start, index));
-    by_rule(Day::empty(64, 96), |_, _, _| NEVER);
+    for n in SIZES {
+        by_rule(day_by(n, 96, |_, _, _| true), |index, start, _| (start, index));
+        by_rule(Day::empty(n, 96), |_, _, _| NEVER);
+    }
 }
 
 /// A path on which badge t meets badge t + 1 in tick t alone: a badge reaches all after it, one by one, and of those before it the next, in both
-/// cases if its contact is not before its start.
+/// cases if its contact is not before its start. Badges above 96 meet nobody.
 #[test]
 fn path_met_in_rising_ticks() {
-    by_rule(day_by(64, 96, |t, u, v| u == t && v == t + 1), |index, start, u| {
-        if index < u && start <= index {
-            (u - 1, u - 1)
-        } else if u + 1 == index && start <= u {
-            (u, index)
-        } else {
-            NEVER
-        }
-    });
+    for n in SIZES {
+        by_rule(day_by(n, 96, |t, u, v| u == t && v == t + 1), |index, start, u| {
+            if index < u && start <= index && u <= 96 {
+                (u - 1, u - 1)
+            } else if u + 1 == index && start <= u && index <= 96 {
+                (u, index)
+            } else {
+                NEVER
+            }
+        });
+    }
 }
 
 /// A path on which each badge is in contact with the next all day: one badge more is reached in each tick, on either side.
 #[test]
 fn path_in_contact_all_day() {
-    by_rule(day_by(64, 96, |_, u, v| u + 1 == v), |index, start, u| {
-        let (tick, source) = if index < u { (start + u - index - 1, u - 1) } else { (start + index - u - 1, u + 1) };
-        if tick < 96 { (tick, source) } else { NEVER }
-    });
+    for n in SIZES {
+        by_rule(day_by(n, 96, |_, u, v| u + 1 == v), |index, start, u| {
+            let (tick, source) = if index < u { (start + u - index - 1, u - 1) } else { (start + index - u - 1, u + 1) };
+            if tick < 96 { (tick, source) } else { NEVER }
+        });
+    }
 }
 
-/// Badge 63 with another badge in each tick, badge t mod 63 in tick t: whoever is reached is so by badge 63, or is badge 63.
+/// The last badge with another badge in each tick, badge t mod n - 1 in tick t: whoever is reached is so by the last, or is the last.
 #[test]
 fn another_partner_in_each_tick() {
-    let meets = |u: usize, from: usize| (from..96).find(|t| t % 63 == u);
-    by_rule(day_by(64, 96, |t, u, v| (u, v) == (t % 63, 63)), |index, start, u| {
-        if index == 63 {
-            meets(u, start).map_or(NEVER, |t| (t, 63))
-        } else if u == 63 {
-            meets(index, start).map_or(NEVER, |t| (t, index))
-        } else {
-            meets(index, start).and_then(|t| meets(u, t + 1)).map_or(NEVER, |t| (t, 63))
-        }
-    });
+    for n in SIZES {
+        let last = n - 1;
+        let meets = |u: usize, from: usize| (from..96).find(|t| t % last == u);
+        by_rule(day_by(n, 96, |t, u, v| (u, v) == (t % last, last)), |index, start, u| {
+            if index == last {
+                meets(u, start).map_or(NEVER, |t| (t, last))
+            } else if u == last {
+                meets(index, start).map_or(NEVER, |t| (t, index))
+            } else {
+                meets(index, start).and_then(|t| meets(u, t + 1)).map_or(NEVER, |t| (t, last))
+            }
+        });
+    }
 }
 
 /// Every even badge meets every odd one all day, and no badge one of its own kind: these are reached in the second tick, by the smallest of the other
 /// kind.
 #[test]
 fn even_badges_and_odd_ones() {
-    by_rule(day_by(64, 96, |_, u, v| u % 2 != v % 2), |index, start, u| {
-        if u % 2 != index % 2 {
-            (start, index)
-        } else if start < 95 {
-            (start + 1, 1 - u % 2)
-        } else {
-            NEVER
+    for n in SIZES {
+        by_rule(day_by(n, 96, |_, u, v| u % 2 != v % 2), |index, start, u| {
+            if u % 2 != index % 2 {
+                (start, index)
+            } else if start < 95 {
+                (start + 1, 1 - u % 2)
+            } else {
+                NEVER
+            }
+        });
+    }
+}
+
+/// The lower half of 128 badges and the upper half, each in contact within all day, and badges 63 and 64 in every tick from 5 on: beyond those, the
+/// other half is reached in the tick after that.
+#[test]
+fn one_bridge_between_halves() {
+    by_rule(day_by(128, 96, |t, u, v| u / 64 == v / 64 || (u, v) == (63, 64) && t >= 5), |index, start, u| {
+        let ends = [63, 64][index / 64];
+        if index / 64 == u / 64 {
+            return (start, index);
         }
+        // when the end of the bridge on the index's side passes on, and who crosses
+        let from = if index == ends { start.max(5) } else { (start + 1).max(5) };
+        let (tick, source) = if u == 127 - ends { (from, ends) } else { (from + 1, 127 - ends) };
+        if tick < 96 { (tick, source) } else { NEVER }
     });
 }

@@ -1,54 +1,48 @@
--- `toggle` meets its contract: the row of v is put back with u changed in it.
-use mathlib.Core.Path.{_≡_, ap, ap₂, _∙_}
-use mathlib.Core.Logic.{_⊎_, inl, inr}
-use Prim.Native.Nat.{ℕ, _<_}
+-- `toggle` meets its contract: the badges change in one word of the row.
+use native.Mathlib.Omega.{arith}
 use borrow.Author.Needs.{needs}
-use Rattle.sets.specs.Sets.{In, symmetricDifference, only}
-use Rattle.sets.specs.Words.{putSet}
-use Rattle.sets.specs.Members.{capacity, insert}
-use Rattle.sets.proofs.Sets.{not-in-none, in-union-right, of-union, ext, insert-in}
+use Rattle.sets.specs.Words.{Words}
+use Rattle.sets.proofs.OneWord.{toggle-word}
 use Rattle.checks.proofs.checking.toggle.Statement.{statement}
 use Rattle.checks.proofs.checking.toggle.Tie as tie
 
-set-at-requires : tie.Need-set-at-requires
-set-at-requires c κs = search needs
+mul-at : tie.Need-mul-at
+mul-at c = search needs
 
-with-requires : tie.Need-with-requires
-with-requires c κs = search needs
+add-at : tie.Need-add-at
+add-at c = search needs
 
-symmetric-difference-requires : tie.Need-symmetric-difference-requires
-symmetric-difference-requires c κs = search needs
+mul-known : tie.Need-mul-known
+mul-known c = search needs
 
-put-set-requires : tie.Need-put-set-requires
-put-set-requires c κs = search needs
+slice-read-known : tie.Need-slice-read-known
+slice-read-known c = search needs
+
+mul-known-2 : tie.Need-mul-known-2
+mul-known-2 c = search needs
+
+slice-write-known : tie.Need-slice-write-known
+slice-write-known c = search needs
 
 same-length : tie.Need-same-length
 same-length c = search needs
 
--- the set of u alone
-insert-none : (u : ℕ) → u < capacity → insert 0 u ≡ only u
-insert-none u l = insert-in 0 u l ∙ ext _ _ (λ v i. go v (of-union 0 (only u) v i)) (in-union-right 0 (only u))
-  where
-    go : (v : ℕ) → In 0 v ⊎ In (only u) v → In (only u) v
-    go v (inl i) = absurd (not-in-none v i)
-    go v (inr i) = i
-
 returns : tie.Need-returns
 returns c =
-    let p = c .before .before in
-    let d = p .before .before in
-    let w = d .before in
-    let a = w .before .before .before .before .args in
-    p .put-set .ensures
-    ∙ ap (putSet (a .known .now) (a .v)) (d .symmetric-difference .ensures ∙ ap₂ symmetricDifference (w .before .set-at .ensures) (w .«with» .ensures ∙ insert-none (a .u) (w .before .before .before .before .pre)))
+    let s = c .before in
+    let a = s .args in
+    let fit : Words (a .known .now) = record { at = λ i l. omega (arith, c .slice-known .given i) } in
+    toggle-word _ (a .v) (a .i) (a .word) fit (s .pre .0) (s .pre .1) (omega arith)
 
 pub toggle-spec : {M : Type 1} → statement M
 toggle-spec =
     tie.close
     (tie.spec
-    set-at-requires
-    with-requires
-    symmetric-difference-requires
-    put-set-requires
+    mul-at
+    add-at
+    mul-known
+    slice-read-known
+    mul-known-2
+    slice-write-known
     same-length
     returns)

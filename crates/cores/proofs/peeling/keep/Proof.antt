@@ -1,7 +1,7 @@
 -- `peeling::keep` meets its contract. Its loop's invariant: the words hold the rows of the members that are no longer unseen, and empty rows else. It ends as
 -- the unseen members get fewer.
 use mathlib.Core.Path.{_≡_, _∙_}
-use Prim.Native.Nat.{_^_, _<_}
+use Prim.Native.Nat.{_<_}
 use native.Mathlib.Omega.{arith}
 use borrow.Author.Needs.{needs}
 use Rattle.sets.specs.Sets.{In, Sub, difference, only, size}
@@ -9,6 +9,7 @@ use Rattle.sets.specs.Members.{capacity, members}
 use Rattle.sets.specs.Words.{wordsOf}
 use Rattle.sets.proofs.Sets.{sub-refl}
 use Rattle.sets.proofs.Size.{size-without}
+use Rattle.sets.proofs.Pairs.{members-lt}
 use Rattle.sets.proofs.Walks.{smallest-unseen, rest-is, none-unseen, unseen-less}
 use Rattle.cores.proofs.KeptRows.{rowsSeen, seen-length, keep-start, keep-next, keep-end}
 use Rattle.cores.proofs.peeling.keep.Statement.{statement}
@@ -23,7 +24,7 @@ abbrev μ-loop : tie.MeasureT-loop
 -- the badge at hand is one of the unseen, and below the capacity
 unseen-in : (c : tie.After-smallest Inv-loop μ-loop) → In (members (c .before .before .before .loop .unseen)) (c .smallest .result) × (c .smallest .result < capacity)
 unseen-in c =
-    let known : members (c .before .before .before .before .args .s) < 2 ^ capacity = omega arith in
+    let known = members-lt (c .before .before .before .before .args .s) (omega arith) (omega arith) in
     smallest-unseen (c .before .before .before .loop .inv .0) known (c .before .before .is-empty .ensures) (c .before .if1 .taken) (c .smallest .ensures)
 
 loop-holds : tie.Need-loop-holds Inv-loop μ-loop

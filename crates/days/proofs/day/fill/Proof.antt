@@ -28,7 +28,7 @@ abbrev μ-loop : tie.MeasureT-loop
 bytes : (c : tie.After-shared-slice-known Inv-loop μ-loop) → Bytes (c .before .args .log .now)
 bytes c = record { at = λ i l. omega (arith, c .shared-slice-known .given i) }
 
--- the words before the loop: the first n×T are zero
+-- the words before the loop: the first 2×n×T are zero
 cleared : (c : tie.After-clear Inv-loop μ-loop) → let a = c .before .before .before .before .args in
     c .clear .last .0 ++ drop (wordsFor (a .badges) (a .ticks)) (a .words .now) ≡ replicate (wordsFor (a .badges) (a .ticks)) 0 ++ drop (wordsFor (a .badges) (a .ticks)) (a .words .now)
 cleared c =

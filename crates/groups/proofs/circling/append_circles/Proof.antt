@@ -5,6 +5,7 @@ use native.Mathlib.Omega.{arith}
 use borrow.Author.Needs.{needs}
 use Rattle.sets.specs.Sets.{size}
 use Rattle.sets.specs.Members.{capacity, members}
+use Rattle.sets.proofs.Pairs.{members-lt}
 use Rattle.sets.proofs.Walks.{none-unseen}
 use Rattle.cores.specs.Rows.{graph}
 use Rattle.circles.proofs.Counting.{some-left}
@@ -19,9 +20,9 @@ Inv-loop buffer₀ form count rows core enough so-far₀ left₀ buffer so-far l
 abbrev μ-loop : tie.MeasureT-loop
 μ-loop buffer₀ form count rows core enough so-far₀ left₀ buffer so-far left = size (members left)
 
--- the core is one that a word holds
+-- the core has badges below the capacity alone
 small : (s : tie.Start Inv-loop μ-loop) → members (s .args .core .members) < 2 ^ capacity
-small s = omega arith
+small s = members-lt (s .args .core .members) (omega arith) (omega arith)
 
 loop-holds : tie.Need-loop-holds Inv-loop μ-loop
 loop-holds c = let a = c .before .before .args in write-start (coreOf (a .core)) (a .enough) _ _ _ _ _ _

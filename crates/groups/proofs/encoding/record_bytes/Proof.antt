@@ -1,24 +1,22 @@
--- record_bytes meets its contract: after the mark and three bytes come those of the set's word, and those of 0.
-use mathlib.Core.Path.{_≡_, ap, _∙_}
-use Prim.Native.Nat.{_+_, _*_, _^_, _<_}
-use native.Mathlib.Omega.{arith}
+-- record_bytes meets its contract: after the mark and three bytes come those of the set's two words.
+use mathlib.Core.Path.{ap, _∙_}
 use borrow.Author.Needs.{needs}
 use Rattle.sets.specs.Bytes.{littleEndian}
 use Rattle.sets.specs.Members.{members}
+use Rattle.sets.proofs.Pairs.{two-parts}
 use Rattle.groups.specs.Appending.{coreOf}
 use Rattle.groups.proofs.Appended.{wide-record}
 use Rattle.groups.proofs.encoding.record_bytes.Statement.{statement}
 use Rattle.groups.proofs.encoding.record_bytes.Tie as tie
 
--- the members are those that a word holds
-small : (s : tie.Start) → members (s .args .shown .members) < 2 ^ 64
-small s = omega arith
-
-to-word-requires : tie.Need-to-word-requires
-to-word-requires c κs = search needs
+word-requires : tie.Need-word-requires
+word-requires c κs = search needs
 
 word-bytes-requires : tie.Need-word-bytes-requires
 word-bytes-requires c κs = search needs
+
+word-requires-2 : tie.Need-word-requires-2
+word-requires-2 c κs = search needs
 
 word-bytes-requires-2 : tie.Need-word-bytes-requires-2
 word-bytes-requires-2 c κs = search needs
@@ -79,18 +77,20 @@ array-read-t62 c = search needs
 
 returns : tie.Need-returns
 returns c =
-    let w = c .before in
+    let u = c .before in
+    let w = u .before in
     let s = w .before .before .before in
-    let m = members (s .args .shown .members) in
-    let one : m + 0 * 2 ^ 64 ≡ m = omega arith in
-    wide-record (s .args .t1) (search needs) (coreOf (s .args .shown)) m 0 (small s) one (w .word-bytes .result) (c .word-bytes2 .result) (w .word-bytes .ensures ∙ ap (littleEndian 8) (w .before .to-word .ensures)) (c .word-bytes2 .ensures)
+    let parts = two-parts (members (s .args .shown .members)) in
+    wide-record (s .args .t1) (search needs) (coreOf (s .args .shown)) _ _ (parts .0) (parts .1) (w .word-bytes .result) (c .word-bytes2 .result)
+    (w .word-bytes .ensures ∙ ap (littleEndian 8) (w .before .word .ensures)) (c .word-bytes2 .ensures ∙ ap (littleEndian 8) (u .word2 .ensures))
 
 pub record-bytes-spec : {M : Type 1} → statement M
 record-bytes-spec =
     tie.close
     (tie.spec
-    to-word-requires
+    word-requires
     word-bytes-requires
+    word-requires-2
     word-bytes-requires-2
     array-read-t11
     array-read-t14

@@ -2,6 +2,7 @@
 use Prim.Native.Nat.{_-_}
 use native.Mathlib.Omega.{arith}
 use borrow.Author.Needs.{needs}
+use Rattle.sets.specs.Words.{fromWords}
 use Rattle.sets.specs.Members.{members}
 use Rattle.records.proofs.WithinLimits.{limits-of}
 use Rattle.groups.proofs.CoresFound.{CoresSoFar, so-far-none, so-far-room, so-far-next, so-far-end}
@@ -31,6 +32,7 @@ slice-aggregate-find-line-4 : tie.Need-slice-aggregate-find-line-4 Inv-loop μ-l
 slice-aggregate-find-line-4 c = search needs
 
 find-line-requires : tie.Need-find-line-requires Inv-loop μ-loop
+unfolding fromWords
 find-line-requires c κs =
     let i = c .before .before .before .before in
     let s = i .before .loop .inv in
@@ -53,6 +55,7 @@ abbrev turn : tie.After-find-line Inv-loop μ-loop → tie.In-loop Inv-loop μ-l
 turn f = f .before .before .before .before .before
 
 keep-line-requires : tie.Need-keep-line-requires Inv-loop μ-loop
+unfolding fromWords
 keep-line-requires c κs =
     let f = c .before .before .before .before .before .before .before .before .before .before in
     let i = turn f in
@@ -67,6 +70,7 @@ loop-less : tie.Need-loop-less Inv-loop μ-loop
 loop-less c = search needs
 
 loop-again : tie.Need-loop-again Inv-loop μ-loop
+unfolding fromWords
 loop-again c =
     let a = c .before .before .before .before in
     let f = a .before .before .before .before .before .before .before .before .before .before .before in

@@ -1,11 +1,12 @@
 -- `count_core` meets its contract: a set's circles are few enough for a byte each, and nothing but the two places changes.
 use mathlib.Core.Path.{_∙_}
-use Prim.Native.Nat.{_^_, _≤_, _<_}
+use Prim.Native.Nat.{_≤_}
 use native.Mathlib.Omega.{arith}
 use lib.ListN.{length, length-set}
 use lib.Seq.{getD-set-same, getD-set-other}
 use borrow.Author.Needs.{needs}
 use Rattle.sets.specs.Members.{capacity, members}
+use Rattle.sets.proofs.Pairs.{members-lt}
 use Rattle.sets.proofs.Size.{size-le}
 use Rattle.cores.specs.Rows.{graph}
 use Rattle.circles.specs.Circles.{circles}
@@ -26,7 +27,7 @@ few : (c : tie.After-count-circles) → (c .count-circles .result .all ≤ capac
 few c =
     let a = c .before .before .before .before .args in
     let s = members (a .core) in
-    let known : s < 2 ^ capacity = omega arith in
+    let known = members-lt (a .core) (omega arith) (omega arith) in
     let g = graph (a .rows .now) in
     let e = c .count-circles .ensures in
     let most : length (circles g s) ≤ capacity = omega (arith, circles-few g s known, size-le capacity s known) in

@@ -4,6 +4,7 @@ use native.Mathlib.Omega.{arith}
 use lib.ListN.{length}
 use borrow.Author.Needs.{needs}
 use Rattle.sets.specs.Words.{setWords}
+use Rattle.records.proofs.WithinLimits.{limits-of}
 use Rattle.groups.proofs.Narrowing.{tick-inside, first-tick}
 use Rattle.groups.proofs.rows.first_rows.Statement.{statement}
 use Rattle.groups.proofs.rows.first_rows.Tie as tie
@@ -13,7 +14,7 @@ inside : (c : tie.After-struct-known) → let a = c .before .before .args in a .
 inside c = let p = c .before .before .pre .0 in tick-inside _ p (p .rising)
 
 mul-size : tie.Need-mul-size
-mul-size c = search needs
+mul-size c = omega (arith, limits-of (c .before .before .pre .0 .lent .limits) .few)
 
 mul-at : tie.Need-mul-at
 mul-at c = omega (arith, inside c)

@@ -5,6 +5,7 @@ use native.Mathlib.Omega.{arith}
 use lib.ListN.{length}
 use borrow.Author.Needs.{needs}
 use Rattle.sets.specs.Words.{setWords, Words}
+use Rattle.records.proofs.WithinLimits.{limits-of}
 use Rattle.groups.proofs.Narrowing.{tick-inside, Going, going-start, next-inside, going-step, going-next, going-size, going-end}
 use Rattle.groups.proofs.rows.narrow_to.Statement.{statement}
 use Rattle.groups.proofs.rows.narrow_to.Tie as tie
@@ -36,7 +37,7 @@ inside : (c : tie.In-loop Inv-loop μ-loop) →
 inside c = next-inside (c .before .before .before .before .before .pre .0) (going (c .before)) (c .loop-test .taken)
 
 mul-size : tie.Need-mul-size Inv-loop μ-loop
-mul-size c = search needs
+mul-size c = omega (arith, limits-of (c .before .before .before .pre .0 .lent .limits) .few)
 
 mul-at : tie.Need-mul-at Inv-loop μ-loop
 mul-at c = let s = c .before .before .before in omega (arith, tick-inside (s .args .reached) (s .pre .0) (s .pre .1 .high))

@@ -1,53 +1,86 @@
--- `lanes::count_side` meets its contract: the complement of the sums counts.
+-- `lanes::count_side` meets its contract: before a turn the rows of the badges of the words before i are added, and the complement of the sums counts.
 use mathlib.Core.Path.{refl}
-use Prim.Native.Nat.{_^_, _<_}
+use Prim.Native.Nat.{_-_, _^_, _≤_, _<_}
 use native.Mathlib.Omega.{arith}
 use borrow.Author.Needs.{needs}
-use Rattle.sets.specs.Words.{Words}
+use Rattle.sets.specs.Words.{setWords, Words}
 use Rattle.sets.specs.Members.{capacity, members}
-use Rattle.innermost.proofs.CountedDegrees.{side-counted}
+use Rattle.sets.proofs.Pairs.{members-lt}
+use Rattle.planes.specs.Lanes.{planesOf}
+use Rattle.cores.specs.Rows.{graph}
+use Rattle.innermost.proofs.CountedDegrees.{AddingWords, words-none, words-more, words-done, side-counted}
 use Rattle.innermost.proofs.lanes.count_side.Statement.{statement}
 use Rattle.innermost.proofs.lanes.count_side.Tie as tie
 
-sub-constant : tie.Need-sub-constant
+abbrev Inv-loop : tie.InvT-loop
+Inv-loop rows s k side sums₀ i₀ sums i = (i ≤ setWords) × AddingWords (graph rows) (members s) side i (planesOf sums₀) (planesOf sums)
+
+abbrev μ-loop : tie.MeasureT-loop
+μ-loop rows s k side sums₀ i₀ sums i = setWords - i
+
+sub-constant : tie.Need-sub-constant Inv-loop μ-loop
 sub-constant c = search needs
 
-constant-requires : tie.Need-constant-requires
+constant-requires : tie.Need-constant-requires Inv-loop μ-loop
 constant-requires c κs = search needs
 
-to-word-requires : tie.Need-to-word-requires
-to-word-requires c κs = search needs
-
-add-word-requires : tie.Need-add-word-requires
-add-word-requires c κs = search needs
-
-complement-requires : tie.Need-complement-requires
-complement-requires c κs = search needs
-
 -- the rows are words
-fit : (c : tie.After-shared-slice-known) → Words (c .before .args .rows .now)
+fit : (c : tie.After-shared-slice-known Inv-loop μ-loop) → Words (c .before .args .rows .now)
 fit c = record { at = λ i l. omega (arith, c .shared-slice-known .given i) }
 
-wide : (c : tie.Start) → members (c .args .s) < 2 ^ capacity
-wide c = omega arith
+wide : (c : tie.Start Inv-loop μ-loop) → members (c .args .s) < 2 ^ capacity
+wide c = members-lt (c .args .s) (omega arith) (omega arith)
 
-returns : tie.Need-returns
-returns c =
-    let a = c .before in
-    let w = a .before in
-    let k = w .before in
-    let g = k .before in
+loop-holds : tie.Need-loop-holds Inv-loop μ-loop
+loop-holds c = (omega arith, words-none (wide (c .before .before)) _)
+
+word-requires : tie.Need-word-requires Inv-loop μ-loop
+word-requires c κs = search needs
+
+mul-add-word : tie.Need-mul-add-word Inv-loop μ-loop
+mul-add-word c = omega arith
+
+add-word-requires : tie.Need-add-word-requires Inv-loop μ-loop
+add-word-requires c κs = search needs
+
+add-i : tie.Need-add-i Inv-loop μ-loop
+add-i c = omega arith
+
+loop-less : tie.Need-loop-less Inv-loop μ-loop
+loop-less c = omega arith
+
+loop-again : tie.Need-loop-again Inv-loop μ-loop
+loop-again c =
+    let w = c .before in
+    let l = w .before .before in
+    let g = l .before .before in
     let s = g .before in
-    side-counted (s .args .rows .now) (fit g) (s .pre .0) (members (s .args .s)) (wide s) (s .pre .3) (omega arith) (omega arith) refl refl
-    (k .constant .ensures) (rw (w .to-word .ensures) at (a .add-word .ensures)) (c .complement .ensures)
+    (omega arith, words-more (wide s) (fit g) (s .pre .0) (s .pre .3) (l .loop .inv .1) (w .before .loop-test .taken) refl (w .word .ensures) (c .add-word .ensures))
+
+complement-requires : tie.Need-complement-requires Inv-loop μ-loop
+complement-requires c κs = search needs
+
+returns : tie.Need-returns Inv-loop μ-loop
+returns c =
+    let l = c .before .before in
+    let k = l .before in
+    let s = k .before .before in
+    side-counted (wide s) (omega arith) (omega arith) refl refl (k .constant .ensures) (words-done (wide s) (l .loop .inv .1) (omega arith)) (c .complement .ensures)
 
 pub count-side-spec : {M : Type 1} → statement M
 count-side-spec =
     tie.close
     (tie.spec
+    Inv-loop
+    μ-loop
     sub-constant
     constant-requires
-    to-word-requires
+    loop-holds
+    word-requires
+    mul-add-word
     add-word-requires
+    add-i
+    loop-less
+    loop-again
     complement-requires
     returns)

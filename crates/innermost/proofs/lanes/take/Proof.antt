@@ -1,6 +1,5 @@
 -- `lanes::take` meets its contract: a word that is not empty has a smallest badge, whose row is among the rows.
-use mathlib.Core.Path.{_≡_}
-use Prim.Native.Nat.{_^_, _<_}
+use Prim.Native.Nat.{_<_}
 use native.Mathlib.Omega.{arith}
 use lib.Count.{trailingZeros}
 use borrow.Author.Needs.{needs}

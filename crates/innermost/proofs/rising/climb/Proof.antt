@@ -1,12 +1,12 @@
 -- `rising::climb` meets its contract: before a turn the core found is the highest of the orders tried, and what is left is counted at the next.
 -- The loop ends as the order rises.
-use mathlib.Core.Path.{_≡_, refl, sym, _∙_}
+use mathlib.Core.Path.{_≡_, sym, _∙_}
 use mathlib.Core.Logic.{inl, inr}
-use Prim.Native.Nat.{_+_, _-_, _^_, _≤_, _<_}
+use Prim.Native.Nat.{_+_, _-_, _≤_}
 use native.Mathlib.Omega.{arith}
 use borrow.Author.Needs.{needs}
 use borrow.Author.Tests.{not-true, not-false}
-use Rattle.sets.specs.Members.{capacity, members}
+use Rattle.sets.specs.Members.{members}
 use Rattle.planes.specs.Lanes.{half}
 use Rattle.cores.specs.Rows.{graph}
 use Rattle.innermost.specs.Degrees.{numberOf}
@@ -33,10 +33,6 @@ widen-requires c κs = search needs
 
 add-settle : tie.Need-add-settle Inv-loop μ-loop
 add-settle c = search needs
-
--- the base is a set of badges that a word holds
-wide : (c : tie.Start Inv-loop μ-loop) → members (c .args .base) < 2 ^ capacity
-wide c = omega arith
 
 -- no order is above half of what there is room for
 few : (c : tie.Start Inv-loop μ-loop) → c .args .stop ≤ half
@@ -67,7 +63,7 @@ loop-again c =
     let t = e .before .before in
     let i = t .before .before in
     let s = i .before .before .before .before .before in
-    climbing-more (i .before .loop .inv) _ (at-order (t .before)) (t .settle .ensures) (i .loop-test .taken) (sym (e .before .contains .ensures) ∙ not-false _ (e .if1 .left)) (wide s) (few s) (c .raise .ensures)
+    climbing-more (i .before .loop .inv) _ (at-order (t .before)) (t .settle .ensures) (i .loop-test .taken) (sym (e .before .contains .ensures) ∙ not-false _ (e .if1 .left)) (few s) (c .raise .ensures)
 
 returns : tie.Need-returns Inv-loop μ-loop
 returns c = climbing-end (c .before .loop .inv) (inr (c .loop-test .left))

@@ -4,7 +4,9 @@ use Prim.Native.Nat.{_^_, _<_}
 use native.Mathlib.Omega.{arith}
 use borrow.Author.Needs.{needs}
 use borrow.Author.Tests.{not-true, not-false}
+use Rattle.sets.specs.Words.{fromWords}
 use Rattle.sets.specs.Members.{capacity, members}
+use Rattle.sets.proofs.Pairs.{members-lt}
 use Rattle.cores.specs.Rows.{graph}
 use Rattle.innermost.specs.Columns.{transposed}
 use Rattle.innermost.proofs.Climbing.{climbed-lost, climbed-all, climbed-none}
@@ -15,16 +17,17 @@ contains-requires : tie.Need-contains-requires
 contains-requires c κs = search needs
 
 returns : tie.Need-returns
+unfolding fromWords
 returns c = climbed-lost _ _ _ _ _ (sym (c .before .contains .ensures) ∙ not-true _ (c .if1 .taken))
 
 capped-requires : tie.Need-capped-requires
 capped-requires c κs = search needs
 
--- the base is a set of badges that a word holds
 wide : (c : tie.Start) → members (c .args .base) < 2 ^ capacity
-wide c = omega arith
+wide c = members-lt (c .args .base) (omega arith) (omega arith)
 
 returns-2 : tie.Need-returns-2
+unfolding fromWords
 returns-2 c =
     let t = c .before in
     let s = t .before .before .before in

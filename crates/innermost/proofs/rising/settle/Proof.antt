@@ -1,12 +1,12 @@
 -- `rising::settle` meets its contract: what is left holds the core, with its in-degrees counted, and fewer are left after each turn.
-use mathlib.Core.Path.{_≡_, refl, sym, ap, _∙_}
-use Prim.Native.Nat.{ℕ, _^_, _<_}
+use mathlib.Core.Path.{_≡_, sym, _∙_}
+use Prim.Native.Nat.{_^_, _<_}
 use native.Mathlib.Omega.{arith}
 use borrow.Author.Needs.{needs}
 use borrow.Author.Tests.{eqb-true, eqb-false, not-true}
-use Rattle.sets.specs.Sets.{intersection, difference, size}
+use Rattle.sets.specs.Sets.{intersection, size}
 use Rattle.sets.specs.Members.{capacity, members}
-use Rattle.sets.proofs.Sets.{sub-lt}
+use Rattle.sets.proofs.Pairs.{members-lt}
 use Rattle.cores.specs.Rows.{graph}
 use Rattle.innermost.specs.Columns.{transposed}
 use Rattle.innermost.specs.Degrees.{numberOf}
@@ -38,7 +38,7 @@ low-is i = i .intersection .ensures
 
 -- the set at the start is one that a word holds
 wide : (l : tie.At-loop Inv-loop μ-loop) → members (l .before .before .before .args .given .members) < 2 ^ capacity
-wide l = omega arith
+wide l = members-lt (l .before .before .before .args .given .members) (omega arith) (omega arith)
 
 -- what is left without them holds the core
 less : (d : tie.After-difference Inv-loop μ-loop) →
@@ -104,7 +104,7 @@ loop-again c =
     let part = low-sub (wide l) (l .loop .inv) (i .before .below .ensures) (low-is i) in
     record {
       peeling = less d;
-      counting = rw (d .difference .ensures) (counting-less (sub-lt capacity _ _ (l .loop .inv .peeling .within) (wide l)) (l .loop .inv .counting) (l .before .before .before .pre .0) part (c .discount .ensures));
+      counting = rw (d .difference .ensures) (counting-less (l .loop .inv .counting) (l .before .before .before .pre .0) part (rw (d .difference .ensures) at (c .discount .ensures)));
     }
 
 pub settle-spec : {M : Type 1} → statement M

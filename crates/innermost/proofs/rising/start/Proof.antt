@@ -1,9 +1,10 @@
 -- `rising::start` meets its contract: the base is the core of every order up to its least in-degree, which the largest number in its lanes gives.
 use mathlib.Core.Path.{_≡_}
-use Prim.Native.Nat.{_+_}
+use Prim.Native.Nat.{ℕ, _+_, _<_}
 use native.Mathlib.Omega.{arith}
 use borrow.Author.Needs.{needs}
 use borrow.Author.Tests.{ltb-true}
+use Rattle.sets.specs.Words.{fromWords}
 use Rattle.sets.specs.Members.{members}
 use Rattle.sets.proofs.Bools.{and-left}
 use Rattle.cores.specs.Rows.{graph}
@@ -37,6 +38,7 @@ sub-if1 : tie.Need-sub-if1
 sub-if1 c = search needs
 
 returns : tie.Need-returns
+unfolding fromWords
 returns c = lowest (c .before)
 
 widen-requires-2 : tie.Need-widen-requires-2
@@ -58,10 +60,28 @@ widen-requires-3 : tie.Need-widen-requires-3
 widen-requires-3 c κs = search needs
 
 returns-2 : tie.Need-returns-2
+unfolding fromWords
 returns-2 c = lowest (c .before .before .before .before .before)
 
 capped-requires : tie.Need-capped-requires
 capped-requires c κs = search needs
+
+-- the base is the core of the order that its least in-degree gives; beyond the last order nothing has to be counted
+jump : (c : tie.After-capped) {a : ℕ → ℕ} →
+    let n = c .before .before .before .before .before .before in
+    let s = n .before .before .args in
+    (c .capped .result < s .stop → Counting (graph (s .rows .now)) (members (s .base)) (c .capped .result + 1) a)
+    → Climbing (graph (s .rows .now)) (members (s .base)) (members (s .query)) (s .above) (s .stop) (c .capped .result) (members (s .base)) (members (s .base)) a
+jump c f =
+    let above = c .before in
+    let l = above .before .before in
+    let n = l .before .before .before in
+    let s = n .before .before in
+    let least = lanes-least (counted n) (l .largest .ensures) (c .capped .result) (omega arith) in
+    climbing-jump least (omega (arith, above .if2 .left, above .before .widen3 .ensures .0, c .capped .ensures, s .pre .0)) (omega arith) (s .pre .2) f
+
+returns-3 : tie.Need-returns-3
+returns-3 c = jump (c .before) (λ l. omega arith)
 
 widen-requires-4 : tie.Need-widen-requires-4
 widen-requires-4 c κs = search needs
@@ -72,16 +92,12 @@ add-count-2 c = search needs
 count-requires-2 : tie.Need-count-requires-2
 count-requires-2 c κs = search needs
 
-returns-3 : tie.Need-returns-3
-returns-3 c =
+returns-4 : tie.Need-returns-4
+returns-4 c =
     let w = c .before in
-    let l = w .before .before .before .before in
-    let n = l .before .before .before in
-    let s = n .before .before in
-    let least = lanes-least (counted n) (l .largest .ensures) (w .before .capped .result) (omega arith) in
-    let k : w .widen4 .result + 1 ≡ w .before .capped .result + 1 = omega arith in
-    let above = w .before .before in
-    climbing-jump least (omega (arith, above .if2 .left, above .before .widen3 .ensures .0, w .before .capped .ensures, s .pre .0)) (omega arith) (s .pre .2) (rw k at (c .count2 .ensures))
+    let d = w .before .before in
+    let k : w .widen4 .result + 1 ≡ d .capped .result + 1 = omega arith in
+    jump d (λ l. rw k at (c .count2 .ensures))
 
 pub start-spec : {M : Type 1} → statement M
 start-spec =
@@ -99,7 +115,8 @@ start-spec =
     widen-requires-3
     returns-2
     capped-requires
+    returns-3
     widen-requires-4
     add-count-2
     count-requires-2
-    returns-3)
+    returns-4)

@@ -6,7 +6,6 @@ use native.Mathlib.Omega.{arith}
 use lib.Bits.{bitOr}
 use lib.Count.{trailingZeros}
 use lib.ListN.{length, getD}
-use borrow.Author.Needs.{needs}
 use Rattle.sets.specs.Sets.{In, Sub, union, difference}
 use Rattle.sets.specs.Members.{capacity}
 use Rattle.sets.specs.Tables.{tabulate, piecewise}

@@ -60,7 +60,7 @@ record-line-requires : tie.Need-record-line-requires
 record-line-requires c κs =
     let e = c .before in
     let w = e .before in
-    (w .width-of .ensures .1 .0, omega (arith, inside e), w .before .before .before .pre .1)
+    (w .width-of .ensures .1 .0, w .width-of .ensures .1 .1, omega (arith, inside e), w .before .before .before .pre .1)
 
 same-length-2 : tie.Need-same-length-2
 same-length-2 c = search needs

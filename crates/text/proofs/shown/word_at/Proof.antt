@@ -6,10 +6,10 @@ use Rattle.text.proofs.shown.word_at.Statement.{statement}
 use Rattle.text.proofs.shown.word_at.Tie as tie
 
 abbrev Inv-loop : tie.InvT-loop
-Inv-loop bytes at word₀ i₀ word i = WordFrom bytes at i word
+Inv-loop bytes at size word₀ i₀ word i = WordFrom bytes at size i word
 
 abbrev μ-loop : tie.MeasureT-loop
-μ-loop bytes at word₀ i₀ word i = i
+μ-loop bytes at size word₀ i₀ word i = i
 
 loop-holds : tie.Need-loop-holds Inv-loop μ-loop
 loop-holds c = word-none
@@ -18,10 +18,10 @@ sub-i : tie.Need-sub-i Inv-loop μ-loop
 sub-i c = search needs
 
 mul-word : tie.Need-mul-word Inv-loop μ-loop
-mul-word c = omega (arith, word-fits {b = 0} (c .before .loop .inv) (c .loop-test .taken) (omega arith))
+mul-word c = omega (arith, word-fits {b = 0} (c .before .loop .inv) (c .loop-test .taken) (omega arith) (c .before .before .before .pre .0))
 
 add-byte-at : tie.Need-add-byte-at Inv-loop μ-loop
-add-byte-at c = omega (arith, c .before .loop .inv .few, c .before .before .before .pre)
+add-byte-at c = omega (arith, c .before .loop .inv .few, c .before .before .before .pre .1)
 
 byte-at-requires : tie.Need-byte-at-requires Inv-loop μ-loop
 byte-at-requires c κs = search needs
@@ -30,7 +30,7 @@ cast-word : tie.Need-cast-word Inv-loop μ-loop
 cast-word c = search needs
 
 add-word : tie.Need-add-word Inv-loop μ-loop
-add-word c = omega (arith, word-fits {b = c .byte-at .result} (c .before .before .loop .inv) (c .before .loop-test .taken) (search needs))
+add-word c = omega (arith, word-fits {b = c .byte-at .result} (c .before .before .loop .inv) (c .before .loop-test .taken) (search needs) (c .before .before .before .before .pre .0))
 
 loop-less : tie.Need-loop-less Inv-loop μ-loop
 loop-less c = search needs

@@ -5,7 +5,7 @@ use native.Mathlib.Omega.{arith}
 use lib.ListN.{length, replicate, length-replicate}
 use borrow.Author.Needs.{needs}
 use Rattle.sets.specs.Members.{capacity, members}
-use Rattle.sets.specs.Words.{places}
+use Rattle.sets.specs.Words.{places, fromWords}
 use Rattle.records.specs.Limits.{maxTicks}
 use Rattle.chains.specs.Traces.{never}
 use Rattle.chains.proofs.Judging.{start-few}
@@ -39,6 +39,7 @@ with-requires : tie.Need-with-requires Inv-loop μ-loop
 with-requires c κs = search needs
 
 loop-holds : tie.Need-loop-holds Inv-loop μ-loop
+unfolding fromWords
 loop-holds c =
     let k = c .before .before .before in
     let d = k .before .before .before .before .pre .0 in

@@ -43,9 +43,9 @@ fn members(words: &[u64], n: usize, query: u64, score: u16) -> u64 {
         return full(n);
     }
     let mut rows = [!0; 64];
-    for tick in words.chunks_exact(n) {
-        for (row, word) in rows.iter_mut().zip(tick) {
-            *row &= word;
+    for tick in words.chunks_exact(2 * n) {
+        for (row, set) in rows.iter_mut().zip(tick.chunks_exact(2)) {
+            *row &= set[0];
         }
     }
     core(&rows, full(n), query, score as u32).expect("a core of that score").0
@@ -65,7 +65,7 @@ pub fn plan(words: &[u64], n: usize, ticks: usize, query: u64, parts: usize, out
     let (mut shown, mut first): (Vec<Group>, usize) = (Vec::with_capacity(parts), 0);
     for last in ends(&scores, parts) {
         let score = scores[first][last];
-        shown.push((score as u8, first, last, members(&words[first * n..(last + 1) * n], n, query, score)));
+        shown.push((score as u8, first, last, members(&words[2 * first * n..2 * (last + 1) * n], n, query, score)));
         first = last + 1;
     }
     encode_plan(n, ticks, query, &shown, out)

@@ -11,12 +11,12 @@ pub fn trace(words: &[u64], n: usize, ticks: usize, index: usize, start: usize, 
     sources.fill(ward::NONE);
     reached_in[index] = start as u8;
     let (mut passing, mut left) = (1 << index, full(n) & !(1 << index));
-    for (t, tick) in words[..n * ticks].chunks_exact(n).enumerate().skip(start) {
+    for (t, tick) in words[..2 * n * ticks].chunks_exact(2 * n).enumerate().skip(start) {
         let mut rest = left;
         while rest != 0 {
             let u = rest.trailing_zeros() as usize;
             rest &= rest - 1;
-            let met = tick[u] & passing;
+            let met = tick[2 * u] & passing;
             if met != 0 {
                 reached_in[u] = t as u8;
                 sources[u] = met.trailing_zeros() as u8;

@@ -57,17 +57,17 @@ pub struct Lines<'a> {
 impl Lines<'_> {
     /// Before tick 0, where no span has a score.
     pub fn new(words: &[u64], n: usize, ticks: usize) -> Lines<'_> {
-        Lines { words: &words[..n * ticks], n, spans: Vec::with_capacity(ticks), scores: [0; 97] }
+        Lines { words: &words[..2 * n * ticks], n, spans: Vec::with_capacity(ticks), scores: [0; 97] }
     }
 
     /// Narrows rows from a first tick on, as far as a contact is left, and one of each badge of the query.
     fn narrow(&mut self, first: usize, query: u64) {
         self.spans.clear();
         let mut rows = [!0; 64];
-        for tick in self.words.chunks_exact(self.n).skip(first) {
+        for tick in self.words.chunks_exact(2 * self.n).skip(first) {
             let mut joined = 0;
-            for (row, word) in rows.iter_mut().zip(tick) {
-                *row &= word;
+            for (row, set) in rows.iter_mut().zip(tick.chunks_exact(2)) {
+                *row &= set[0];
                 joined |= *row;
             }
             if joined == 0 || query & !joined != 0 {

@@ -7,7 +7,7 @@ use super::{encode_report, is_day, members, Group};
 pub fn neighbours(words: &[u64], n: usize, first: usize, last: usize) -> Vec<Vec<usize>> {
     (0..n)
         .map(|u| {
-            let mut row = (first..=last).fold(!0, |row, t| row & words[t * n + u]);
+            let mut row = (first..=last).fold(!0, |row, t| row & words[2 * (t * n + u)]);
             let mut list = Vec::with_capacity(row.count_ones() as usize);
             while row != 0 {
                 list.push(row.trailing_zeros() as usize);

@@ -1,5 +1,6 @@
 //! Other ways to make the report, the plan and the trace, each with the checks of the call and the encoding: 10, 8, 11 and 9 for a report, for a plan
-//! also 13 and 14, and for a trace also 22.
+//! also 13 and 14, and for a trace also 22. They take days of up to 64 badges, and hold a set in one word: the lower of its two, of which the upper
+//! is 0.
 
 pub mod algorithm2;
 pub mod bitset_plan;
@@ -17,18 +18,18 @@ fn full(n: usize) -> u64 {
 
 /// The checks 10, 8 and 11.
 fn is_day(words: &[u64], n: usize, ticks: usize) -> bool {
-    if !(1..=64).contains(&n) || !(1..=96).contains(&ticks) || words.len() < n * ticks {
+    if !(1..=64).contains(&n) || !(1..=96).contains(&ticks) || words.len() < 2 * n * ticks {
         return false;
     }
     let outside = !full(n);
-    for tick in words[..n * ticks].chunks_exact(n) {
-        for (u, &row) in tick.iter().enumerate() {
-            if row & (1 << u | outside) != 0 {
+    for tick in words[..2 * n * ticks].chunks_exact(2 * n) {
+        for (u, row) in tick.chunks_exact(2).enumerate() {
+            if row[0] & (1 << u | outside) != 0 || row[1] != 0 {
                 return false;
             }
-            let mut rest = row;
+            let mut rest = row[0];
             while rest != 0 {
-                if tick[rest.trailing_zeros() as usize] >> u & 1 == 0 {
+                if tick[2 * rest.trailing_zeros() as usize] >> u & 1 == 0 {
                     return false;
                 }
                 rest &= rest - 1;

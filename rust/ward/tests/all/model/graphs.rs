@@ -2,70 +2,73 @@
 
 use super::Day;
 
-/// Whether v is in the row of u.
+/// For each badge the set of its neighbours.
 pub struct Graph {
-    joined: Vec<Vec<bool>>,
+    rows: Vec<u128>,
 }
 
 impl Graph {
-    pub fn new(n: usize, joined: impl Fn(usize, usize) -> bool) -> Graph {
-        Graph { joined: (0..n).map(|u| (0..n).map(|v| joined(u, v)).collect()).collect() }
-    }
-
-    pub fn of_rows(rows: &[u64; 64]) -> Graph {
-        Graph::new(64, |u, v| rows[u] >> v & 1 == 1)
+    pub fn new(rows: Vec<u128>) -> Graph {
+        Graph { rows }
     }
 
     /// The pairs in contact in every tick of a span.
     pub fn throughout(day: &Day, first: usize, last: usize) -> Graph {
-        Graph::new(day.n, |u, v| (first..=last).all(|t| day.met(t, u, v)))
+        let everyone = full(day.n);
+        let row = |u: usize| (first..=last).fold(everyone, |row, t| row & day.contacts(t, u));
+        Graph::new((0..day.n).map(row).collect())
     }
 
     /// How many of a set are in the row of u.
-    fn degree(&self, set: u64, u: usize) -> usize {
-        self.joined[u].iter().enumerate().filter(|(v, joined)| **joined && set >> v & 1 == 1).count()
+    fn degree(&self, set: u128, u: usize) -> usize {
+        (self.rows[u] & set).count_ones() as usize
     }
 
     /// The least degree of a set; none of an empty one.
-    pub fn least_degree(&self, set: u64) -> Option<usize> {
-        (0..self.joined.len()).filter(|u| set >> u & 1 == 1).map(|u| self.degree(set, u)).min()
+    pub fn least_degree(&self, set: u128) -> Option<usize> {
+        members(set).map(|u| self.degree(set, u)).min()
     }
 
     /// The core of an order among the badges of a set: those with a degree below k are dropped until none is left to drop. Empty where nobody is
     /// left.
-    pub fn core(&self, base: u64, k: usize) -> u64 {
-        let n = self.joined.len();
+    pub fn core(&self, base: u128, k: usize) -> u128 {
         let mut left = base;
-        let mut degree: Vec<usize> = (0..n).map(|u| self.degree(base, u)).collect();
-        while let Some(u) = (0..n).find(|&u| left >> u & 1 == 1 && degree[u] < k) {
-            left &= !(1 << u);
-            for v in (0..n).filter(|&v| self.joined[v][u]) {
-                degree[v] -= 1;
+        loop {
+            let dropped: u128 = members(left).filter(|&u| self.degree(left, u) < k).map(|u| 1 << u).sum();
+            if dropped == 0 {
+                return left;
             }
+            left &= !dropped;
         }
-        left
     }
 
-    /// The cores of order 1, 2 and so on among the badges of a set, as far as there are any.
-    pub fn cores(&self, base: u64) -> Vec<u64> {
-        (1..).map(|k| self.core(base, k)).take_while(|core| *core != 0).collect()
+    /// The cores of order 1, 2 and so on among the badges of a set, as far as there are any: each among the badges of the one before.
+    pub fn cores(&self, base: u128) -> Vec<u128> {
+        let (mut cores, mut left) = (Vec::new(), self.core(base, 1));
+        while left != 0 {
+            cores.push(left);
+            left = self.core(left, cores.len() + 1);
+        }
+        cores
     }
 
-    /// The members of a set that can be reached from one of them through chains of pairs between members: what is joined to somebody reached is added
+    /// The members of a set that can be reached from one of them through chains of pairs between members: those joined to somebody reached are added
     /// until nobody is left to add.
-    fn reached(&self, set: u64, from: usize) -> u64 {
-        let n = self.joined.len();
+    fn reached(&self, set: u128, from: usize) -> u128 {
         let mut reached = 1 << from;
-        while let Some(v) = (0..n).find(|&v| set & !reached & 1 << v != 0 && (0..n).any(|u| reached >> u & 1 == 1 && self.joined[u][v])) {
-            reached |= 1 << v;
+        loop {
+            let more = members(reached).fold(reached, |more, u| more | self.rows[u] & set);
+            if more == reached {
+                return reached;
+            }
+            reached = more;
         }
-        reached
     }
 
     /// The circles of a set, by smallest member: "its members split by who is joined to whom through chains of the span's pairs between members".
-    pub fn circles(&self, set: u64) -> Vec<u64> {
-        let mut circles: Vec<u64> = Vec::new();
-        for u in (0..self.joined.len()).filter(|u| set >> u & 1 == 1) {
+    pub fn circles(&self, set: u128) -> Vec<u128> {
+        let mut circles: Vec<u128> = Vec::new();
+        for u in members(set) {
             if circles.iter().all(|circle| circle >> u & 1 == 0) {
                 circles.push(self.reached(set, u));
             }
@@ -74,14 +77,23 @@ impl Graph {
     }
 
     /// The largest order whose core has the badge, else 0: for each badge.
-    pub fn core_numbers(&self, base: u64) -> Vec<u8> {
+    pub fn core_numbers(&self, base: u128) -> Vec<u8> {
         let cores = self.cores(base);
         let number = |u: usize| cores.iter().rposition(|core| core >> u & 1 == 1).map_or(0, |place| place as u8 + 1);
-        (0..self.joined.len()).map(number).collect()
+        (0..self.rows.len()).map(number).collect()
     }
 }
 
+/// The badges of a set, rising.
+fn members(mut set: u128) -> impl Iterator<Item = usize> {
+    std::iter::from_fn(move || {
+        let smallest = set.trailing_zeros() as usize;
+        set &= set.checked_sub(1)?;
+        Some(smallest)
+    })
+}
+
 /// All badges below n.
-pub fn full(n: usize) -> u64 {
+pub fn full(n: usize) -> u128 {
     (0..n).map(|u| 1 << u).sum()
 }

@@ -1,6 +1,6 @@
 //! Several receivers: their logs judged in order, and the contacts that enough of them heard.
 
-use super::{Day, Refusal, judge};
+use super::{Day, Refusal, judge, words_for};
 
 /// "number of logs or q outside its limits, or lengths that don't add up to the buffer": 18. Lengths add up as numbers without a bound.
 fn check_receivers(size: usize, lengths: &[usize], quorum: usize) -> Result<(), Refusal> {
@@ -43,7 +43,7 @@ pub fn join(logs: &[u8], lengths: &[usize], quorum: usize, words: usize, work: u
     if days.iter().any(|day| day.n != n || day.ticks != ticks) {
         return Err((19, 0));
     }
-    if words < n * ticks || work < lengths.len() * n * ticks {
+    if words < words_for(n, ticks) || work < lengths.len() * words_for(n, ticks) {
         return Err((8, 0));
     }
     Ok(heard_by(&days, quorum))

@@ -6,7 +6,7 @@ use super::{Record, Refusal};
 pub fn group_lines(n: usize, ticks: usize, groups: &[Record]) -> Vec<String> {
     let mut lines = vec![format!("badges {n} ticks {ticks} groups {}\n", groups.len())];
     for &(order, first, last, members) in groups {
-        let badges: String = (0..64).filter(|v| members >> v & 1 == 1).map(|v| format!(" {v}")).collect();
+        let badges: String = (0..n).filter(|v| members >> v & 1 == 1).map(|v| format!(" {v}")).collect();
         lines.push(format!("order {order} ticks {first} to {last} badges{badges}\n"));
     }
     lines

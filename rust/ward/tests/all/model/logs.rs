@@ -1,6 +1,6 @@
 //! The bytes of a log, and judging them.
 
-use super::{Day, Refusal};
+use super::{Day, Refusal, within_limits};
 
 /// The bytes of a log.
 pub fn log_bytes(n: u8, ticks: u8, contacts: &[[u8; 4]]) -> Vec<u8> {
@@ -26,7 +26,7 @@ pub fn judge(log: &[u8]) -> Result<(Day, usize), Refusal> {
         return Err((1, 0));
     }
     let (n, ticks) = (log[2] as usize, log[3] as usize);
-    if !(1..=64).contains(&n) || !(1..=96).contains(&ticks) {
+    if !within_limits(n, ticks) {
         return Err((3, 0));
     }
     let mut day = Day::empty(n, ticks);

@@ -11,12 +11,12 @@ mod spans;
 mod thresholds;
 mod tracing;
 
-pub use days::{Day, check};
+pub use days::{Day, check, within_limits, words_for};
 pub use graphs::{Graph, full};
 pub use joining::join;
 pub use listing::{group_lines, piece, refusal_lines};
 pub use logs::{judge, log_bytes};
-pub use records::{Record, plan_bytes, report_bytes};
+pub use records::{Record, plan_bytes, record_size, report_bytes};
 pub use reviews::{check_query, check_review};
 pub use spans::Cores;
 pub use thresholds::{Least, PLAIN, RANGES, check_least, kept};

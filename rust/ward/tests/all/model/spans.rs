@@ -5,46 +5,30 @@ use std::cmp::Reverse;
 
 /// The cores of every span of a day, among the badges under review.
 pub struct Cores {
-    n: usize,
+    day: Day,
     ticks: usize,
-    review: u64,
-    /// For each tick and pair, how many ticks the pair stays in contact, from the tick on, without a break.
-    stay: Vec<Vec<Vec<usize>>>,
+    review: u128,
     /// For each first and last tick the cores of order 1, 2 and so on, as far as there are any.
-    of_span: Vec<Vec<u64>>,
+    of_span: Vec<Vec<u128>>,
 }
 
 impl Cores {
-    pub fn of(day: &Day, review: u64) -> Cores {
-        let (n, ticks) = (day.n, day.ticks);
-        let mut stay = vec![vec![vec![0; n]; n]; ticks + 1];
-        for t in (0..ticks).rev() {
-            for u in 0..n {
-                for v in 0..n {
-                    stay[t][u][v] = if day.met(t, u, v) { 1 + stay[t + 1][u][v] } else { 0 };
-                }
+    pub fn of(day: &Day, review: u128) -> Cores {
+        let mut of_span = vec![Vec::new(); day.ticks * day.ticks];
+        for first in 0..day.ticks {
+            for last in first..day.ticks {
+                of_span[first * day.ticks + last] = Graph::throughout(day, first, last).cores(review);
             }
         }
-        let mut cores = Cores { n, ticks, review, stay, of_span: vec![Vec::new(); ticks * ticks] };
-        for first in 0..ticks {
-            for last in first..ticks {
-                cores.of_span[first * ticks + last] = cores.throughout(first, last).cores(review);
-            }
-        }
-        cores
+        Cores { day: day.clone(), ticks: day.ticks, review, of_span }
     }
 
-    /// The pairs in contact in every tick of a span.
-    fn throughout(&self, first: usize, last: usize) -> Graph {
-        Graph::new(self.n, |u, v| self.stay[first][u][v] > last - first)
-    }
-
-    fn on(&self, first: usize, last: usize) -> &[u64] {
+    fn on(&self, first: usize, last: usize) -> &[u128] {
         &self.of_span[first * self.ticks + last]
     }
 
     /// The largest order whose core contains the query, with that core; 0 and the reviewed set if there is none.
-    pub fn highest(&self, query: u64, first: usize, last: usize) -> (usize, u64) {
+    pub fn highest(&self, query: u128, first: usize, last: usize) -> (usize, u128) {
         let mut orders = self.on(first, last).iter().enumerate().filter(|core| query & !core.1 == 0);
         orders.next_back().map_or((0, self.review), |(place, core)| (place + 1, *core))
     }
@@ -65,14 +49,14 @@ impl Cores {
     /// The circles of the maximal cores, each with its core's order and span: "ordered by first tick, last tick, smallest member".
     pub fn groups(&self) -> Vec<Record> {
         let circles = |(order, first, last, core)| {
-            let circles = self.throughout(first, last).circles(core);
+            let circles = Graph::throughout(&self.day, first, last).circles(core);
             circles.into_iter().map(move |circle| (order, first, last, circle))
         };
         self.maximal().into_iter().flat_map(circles).collect()
     }
 
     /// The parts that end with these ticks, around a query: score and members of each.
-    pub fn parts(&self, query: u64, ends: &[usize]) -> Vec<Record> {
+    pub fn parts(&self, query: u128, ends: &[usize]) -> Vec<Record> {
         let mut first = 0;
         let mut parts = Vec::new();
         for &last in ends {
@@ -87,7 +71,7 @@ impl Cores {
 
     /// The last ticks of a plan's h parts around a query: of the ways to cut all ticks into h runs, those of the greatest sum of scores, and of these
     /// the list that comes first, compared number by number.
-    pub fn ends(&self, query: u64, h: usize) -> Vec<usize> {
+    pub fn ends(&self, query: u128, h: usize) -> Vec<usize> {
         let scores: Vec<Vec<usize>> = (0..self.ticks).map(|last| (0..=last).map(|first| self.highest(query, first, last).0).collect()).collect();
         // best[t]: the greatest sum of the ticks before t, in so many runs as were added, and the first list that has it; none where they cannot be cut so.
         // Lists of as many numbers stay in their order when each gets the same number as its last.
@@ -106,7 +90,7 @@ impl Cores {
 
     /// The lists of last ticks of all cuttings into h runs that have the greatest sum, by trying every cutting: bit t of a number says whether a run
     /// ends with tick t. For days of few ticks.
-    pub fn all_best(&self, query: u64, h: usize) -> Vec<Vec<usize>> {
+    pub fn all_best(&self, query: u128, h: usize) -> Vec<Vec<usize>> {
         let cuttings = (0..1u32 << (self.ticks - 1)).filter(|cuts| cuts.count_ones() as usize == h - 1);
         let ends = |cuts: u32| -> Vec<usize> { (0..self.ticks).filter(|&t| t + 1 == self.ticks || cuts >> t & 1 == 1).collect() };
         let sum = |ends: &Vec<usize>| -> usize { self.parts(query, ends).iter().map(|part| part.0).sum() };

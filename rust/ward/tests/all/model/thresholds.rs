@@ -7,8 +7,8 @@ use std::ops::RangeInclusive;
 pub type Least = [usize; 3];
 
 const LEAST_TICKS: RangeInclusive<usize> = 1..=96;
-const LEAST_ORDER: RangeInclusive<usize> = 1..=63;
-const LEAST_MEMBERS: RangeInclusive<usize> = 2..=64;
+const LEAST_ORDER: RangeInclusive<usize> = 1..=127;
+const LEAST_MEMBERS: RangeInclusive<usize> = 2..=128;
 pub const RANGES: [RangeInclusive<usize>; 3] = [LEAST_TICKS, LEAST_ORDER, LEAST_MEMBERS];
 
 /// "With 1, 1 and 2 it is the plain report."

@@ -12,12 +12,14 @@ pub fn check_start(day: &Day, index: usize, start: usize) -> Result<(), Refusal>
 
 /// For each badge and tick, whether a chain arrives at the badge in the tick: "A chain uses contacts in strictly rising ticks, the first in s or
 /// later". Chains are followed contact by contact: one that has arrived at a badge, or starts at the index, goes on by each contact of that badge
-/// from the next tick on, or from s on.
+/// from the next tick on, or from s on; as far as none that arrived there sooner has gone on already.
 fn arrivals(day: &Day, index: usize, start: usize) -> Vec<Vec<bool>> {
-    let mut arrived = vec![vec![false; day.ticks]; day.n];
+    let (mut arrived, mut gone_on) = (vec![vec![false; day.ticks]; day.n], vec![day.ticks; day.n]);
     let mut waiting = vec![(index, start)];
     while let Some((u, from)) = waiting.pop() {
-        for t in from..day.ticks {
+        let until = gone_on[u];
+        gone_on[u] = until.min(from);
+        for t in from..until {
             for v in (0..day.n).filter(|&v| day.met(t, u, v)) {
                 if !arrived[v][t] {
                     arrived[v][t] = true;

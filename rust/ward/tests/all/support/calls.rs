@@ -50,7 +50,7 @@ pub fn tidy(log: &[u8], lent: usize, room: usize) -> Result<Vec<u8>, Refusal> {
 /// The day of a log and the number of its contact records: the log's refusals, then 8.
 pub fn day_of(log: &[u8], lent: usize) -> Result<(Day, usize), Refusal> {
     let judged = model::judge(log)?;
-    if lent < judged.0.n * judged.0.ticks { Err((8, 0)) } else { Ok(judged) }
+    if lent < model::words_for(judged.0.n, judged.0.ticks) { Err((8, 0)) } else { Ok(judged) }
 }
 
 fn words_of(judged: &Result<(Day, usize), Refusal>) -> Vec<u64> {

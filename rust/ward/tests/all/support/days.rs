@@ -1,7 +1,7 @@
 //! Days: random ones, and the largest.
 
 use super::random::Random;
-use crate::model::{self, Day, Record};
+use crate::model::{self, Day, Record, full};
 
 /// A day in which each pair meets in each tick with a probability of so many in 100, and keeps its state with a probability of so many.
 pub fn random_day(random: &mut Random, n: usize, ticks: usize, density: usize, keep: usize) -> Day {
@@ -30,6 +30,11 @@ pub fn meet_some(random: &mut Random, day: &mut Day, count: usize) {
     }
 }
 
+/// A number of badges near those that one word and two words hold: 60 to 70, or 120 to 128.
+pub fn about_whole_words(random: &mut Random) -> usize {
+    if random.below(2) == 0 { 60 + random.below(11) } else { 120 + random.below(9) }
+}
+
 /// A day of n badges in which a pair is in contact in a tick, or is not, by a rule on the tick, the smaller badge and the larger.
 pub fn day_by(n: usize, ticks: usize, met: impl Fn(usize, usize, usize) -> bool) -> Day {
     let mut day = Day::empty(n, ticks);
@@ -45,36 +50,36 @@ pub fn day_by(n: usize, ticks: usize, met: impl Fn(usize, usize, usize) -> bool)
     day
 }
 
-/// 64 badges and 96 ticks, with one badge away from all others in each tick: badge t mod 64 in tick t.
-pub fn one_away() -> Day {
-    day_by(64, 96, |t, u, v| u != t % 64 && v != t % 64)
+/// n badges, 64 or more, and 96 ticks, with one badge away from all others in each tick: badge t mod n in tick t.
+pub fn one_away(n: usize) -> Day {
+    day_by(n, 96, |t, u, v| u != t % n && v != t % n)
 }
 
-/// Its highest core on a span. In a span of L ticks, L below 64, L badges are away; the others stay in contact, and make a core of order 63 - L where
-/// L is at most 62. On a longer span no two stay: order 0, and all badges.
-pub fn core_with_one_away(first: usize, last: usize) -> Record {
+/// Its highest core on a span. In a span of L ticks, L below n, L badges are away; the others stay in contact, and make a core of order n - 1 - L
+/// where L is at most n - 2. On a longer span no two stay: order 0, and all badges.
+pub fn core_with_one_away(n: usize, first: usize, last: usize) -> Record {
     let size = last - first + 1;
-    if size > 62 {
-        return (0, first, last, u64::MAX);
+    if size > n - 2 {
+        return (0, first, last, full(n));
     }
-    let away: u64 = (first..=last).map(|t| 1 << (t % 64)).sum();
-    (63 - size, first, last, !away)
+    let away: u128 = (first..=last).map(|t| 1 << (t % n)).sum();
+    (n - 1 - size, first, last, full(n) & !away)
 }
 
-/// Runs of one tick each, none of them touching, of 64 badges in 96 ticks: tick, smaller badge, larger badge. A pair has 48, one after the other, and
-/// 56 pairs have the same smaller badge.
-pub fn runs_by_pair() -> impl Iterator<Item = (usize, usize, usize)> {
-    (0..20000).map(|run| (run, run / 48)).map(|(run, pair)| (run % 48 * 2, pair / 56, 8 + pair % 56))
+/// Runs of one tick each, none of them touching, of n badges, 64 or more, in 96 ticks: tick, smaller badge, larger badge. A pair has 48, one after
+/// the other, and n - 8 pairs have the same smaller badge.
+pub fn runs_by_pair(n: usize) -> impl Iterator<Item = (usize, usize, usize)> {
+    (0..20000).map(|run| (run, run / 48)).map(move |(run, pair)| (run % 48 * 2, pair / (n - 8), 8 + pair % (n - 8)))
 }
 
 /// The same of all pairs, tick by tick.
-pub fn runs_by_tick() -> impl Iterator<Item = (usize, usize, usize)> {
-    (0..96).step_by(2).flat_map(|t| (0..64).flat_map(move |u| (u + 1..64).map(move |v| (t, u, v))))
+pub fn runs_by_tick(n: usize) -> impl Iterator<Item = (usize, usize, usize)> {
+    (0..96).step_by(2).flat_map(move |t| (0..n).flat_map(move |u| (u + 1..n).map(move |v| (t, u, v))))
 }
 
-/// The words of a day of 64 badges and 96 ticks that has just these runs.
-pub fn words_of_runs(runs: impl Iterator<Item = (usize, usize, usize)>) -> Vec<u64> {
-    let mut day = Day::empty(64, 96);
+/// The words of a day of n badges and 96 ticks that has just these runs.
+pub fn words_of_runs(n: usize, runs: impl Iterator<Item = (usize, usize, usize)>) -> Vec<u64> {
+    let mut day = Day::empty(n, 96);
     for (t, u, v) in runs {
         day.meet(t, u, v);
     }
@@ -111,6 +116,11 @@ pub fn groups_with_away_once() -> Vec<Record> {
         (order_with_away_once(first, last), first, last, members)
     };
     spans.map(group).filter(|group| group.0 > 0).collect()
+}
+
+/// 128 badges, from tick 10 on in contact with all others but the one before, the one after and the one that is 64 away, counted round: 7,936 pairs.
+pub fn all_but_three(ticks: usize) -> Day {
+    day_by(128, ticks, |t, u, v| t >= 10 && ![1, 64, 127].contains(&(v - u)))
 }
 
 /// A log of a day, the pairs in either order by turns.

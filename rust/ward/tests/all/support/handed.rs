@@ -10,7 +10,7 @@ pub struct Handed {
     words: Vec<u64>,
     n: usize,
     ticks: usize,
-    review: u64,
+    review: u128,
     day: Result<Day, Refusal>,
     cores: OnceCell<Cores>,
     groups: OnceCell<Vec<Record>>,
@@ -18,12 +18,12 @@ pub struct Handed {
 
 /// The calls, into so many bytes: each gives what it wrote.
 impl Handed {
-    /// With all n badges under review, or all 64 where there are more.
+    /// With all n badges under review, or all 128 where there are more.
     pub fn new(words: &[u64], n: usize, ticks: usize) -> Handed {
-        Handed::reviewing(words, n, ticks, full(n.min(64)))
+        Handed::reviewing(words, n, ticks, full(n.min(128)))
     }
 
-    pub fn reviewing(words: &[u64], n: usize, ticks: usize, review: u64) -> Handed {
+    pub fn reviewing(words: &[u64], n: usize, ticks: usize, review: u128) -> Handed {
         let day = model::check(words, n, ticks);
         Handed { words: words.to_vec(), n, ticks, review, day, cores: OnceCell::new(), groups: OnceCell::new() }
     }
@@ -56,7 +56,7 @@ impl Handed {
         self.compare("report", room, self.groups(least), call)
     }
 
-    pub fn plan(&self, query: u64, parts: usize, room: usize) -> Result<Vec<u8>, Refusal> {
+    pub fn plan(&self, query: u128, parts: usize, room: usize) -> Result<Vec<u8>, Refusal> {
         let call = |words: &[u64], out: &mut [u8]| ward::plan(words, self.n, self.ticks, self.review, query, parts, out);
         self.compare("plan", room, self.parts(query, parts), call)
     }
@@ -121,7 +121,7 @@ impl Handed {
     }
 
     /// Plan: 10, 8, 11, 20, 13, 21, 14.
-    pub fn parts(&self, query: u64, parts: usize) -> Result<Vec<u8>, Refusal> {
+    pub fn parts(&self, query: u128, parts: usize) -> Result<Vec<u8>, Refusal> {
         let cores = self.cores()?;
         model::check_query(self.n, self.review, query)?;
         if parts == 0 || parts > self.ticks {

@@ -13,29 +13,32 @@ thread_local! {
 }
 
 pub trait Element: Copy + PartialEq + Debug {
-    fn draw(random: &mut Random) -> Self;
+    /// So many random ones.
+    fn draw(random: &mut Random, len: usize) -> Vec<Self>;
 }
 
 impl Element for u8 {
-    fn draw(random: &mut Random) -> u8 {
-        random.below(256) as u8
+    fn draw(random: &mut Random, len: usize) -> Vec<u8> {
+        let mut bytes = vec![0; len];
+        bytes.chunks_mut(8).for_each(|piece| piece.copy_from_slice(&random.next().to_le_bytes()[..piece.len()]));
+        bytes
     }
 }
 
 impl Element for u64 {
-    fn draw(random: &mut Random) -> u64 {
-        random.next()
+    fn draw(random: &mut Random, len: usize) -> Vec<u64> {
+        (0..len).map(|_| random.next()).collect()
     }
 }
 
 impl Element for usize {
-    fn draw(random: &mut Random) -> usize {
-        random.next() as usize
+    fn draw(random: &mut Random, len: usize) -> Vec<usize> {
+        (0..len).map(|_| random.next() as usize).collect()
     }
 }
 
 fn drawn<T: Element>(len: usize) -> Vec<T> {
-    FILLING.with_borrow_mut(|random| (0..len).map(|_| T::draw(random)).collect())
+    FILLING.with_borrow_mut(|random| T::draw(random, len))
 }
 
 pub struct Lent<T> {

@@ -5,6 +5,9 @@ use super::lent::Lent;
 use super::probes;
 use crate::model::{self, Cores, Day, Record, Refusal, full};
 
+/// The bytes of the longest line that any day has, of 128 badges and an order, a first and a last tick of as many digits as there can be.
+pub const LONGEST_LINE: usize = 434;
+
 /// What a listing has to be. The words and the report are those in front of what was lent; none where it is left as it was.
 pub struct Listing {
     pub prepared: Result<usize, Refusal>,
@@ -48,7 +51,7 @@ impl Listing {
         next
     }
 
-    /// The whole text of a log, in pieces of so many bytes: no line has more than 320.
+    /// The whole text of a log, in pieces of so many bytes.
     pub fn whole(&self, log: &[u8], lent: usize, room: usize, size: usize) -> String {
         walk(self.lines.len(), size, |from| self.compare(log, lent, room, from, size));
         self.lines.concat()
@@ -61,15 +64,15 @@ pub fn walk(lines: usize, size: usize, piece: impl Fn(usize) -> usize) {
     loop {
         let next = piece(from);
         if next == from {
-            return assert!(size < 320 || from == lines, "the last line is reached");
+            return assert!(size < LONGEST_LINE || from == lines, "the last line is reached");
         }
         from = next;
     }
 }
 
-/// The text of a log, lent so many words and bytes, in pieces of 1,000 bytes and of 320: the model's.
+/// The text of a log, lent so many words and bytes, in pieces of 1,000 bytes and of as many as the longest line has: the model's.
 pub fn listed(log: &[u8], lent: usize, room: usize) -> String {
     let listing = Listing::of_log(log, lent, room);
     listing.whole(log, lent, room, 1000);
-    listing.whole(log, lent, room, 320)
+    listing.whole(log, lent, room, LONGEST_LINE)
 }

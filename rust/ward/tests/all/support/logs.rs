@@ -60,10 +60,11 @@ pub fn put_contact(log: &mut [u8], k: usize, contact: [u8; 4]) {
     log[4 + 6 * k + 2..4 + 6 * k + 6].copy_from_slice(&contact);
 }
 
-/// The log of 64 badges and 96 ticks in which every two badges are in contact all day, the larger first: 2,016 contacts.
-pub fn all_in_contact() -> Vec<u8> {
-    let pairs = (0..64).flat_map(|a| (0..a).map(move |b| [a, b, 0, 95]));
-    model::log_bytes(64, 96, &pairs.collect::<Vec<_>>())
+/// The log of n badges and 96 ticks in which every two badges are in contact all day, the larger first: 2,016 contacts of 64 badges, 7,875 of 126.
+/// More badges would take more than 8,000.
+pub fn all_in_contact(n: usize) -> Vec<u8> {
+    let pairs = (0..n as u8).flat_map(|a| (0..a).map(move |b| [a, b, 0, 95]));
+    model::log_bytes(n as u8, 96, &pairs.collect::<Vec<_>>())
 }
 
 /// A log with each byte changed to each value, one at a time.

@@ -17,9 +17,39 @@ extern "C" {
         answer: *mut [u64; 5],
     );
     fn probe_lines(size: usize, report: *const u8, report_len: usize, from: usize, out: *mut u8, out_len: usize, answer: *mut [u64; 5]);
-    fn probe_peel(rows: *const [u64; 64], base: u64, order: usize, out: *mut [u64; 64], answer: *mut [u64; 2]);
-    fn probe_core_numbers(rows: *const [u64; 64], base: u64, out: *mut [u8; 64]);
-    fn probe_highest_core(rows: *const [u64; 64], base: u64, query: u64, above: u8, most: u8, out: *mut [u64; 64], answer: *mut [u64; 2]);
+    fn probe_peel(rows: *const RowWords, base_low: u64, base_high: u64, order: usize, out: *mut RowWords, answer: *mut [u64; 3]);
+    fn probe_core_numbers(rows: *const RowWords, base_low: u64, base_high: u64, out: *mut [u8; 128]);
+    fn probe_highest_core(
+        rows: *const RowWords,
+        base_low: u64,
+        base_high: u64,
+        query_low: u64,
+        query_high: u64,
+        above: u8,
+        most: u8,
+        out: *mut RowWords,
+        answer: *mut [u64; 3],
+    );
+}
+
+/// One row a badge; and the same in words, two a row, lower badges first.
+pub type Rows = [u128; 128];
+type RowWords = [u64; 256];
+
+fn halves(set: u128) -> [u64; 2] {
+    [set as u64, (set >> 64) as u64]
+}
+
+fn whole(low: u64, high: u64) -> u128 {
+    u128::from(high) << 64 | u128::from(low)
+}
+
+fn to_words(rows: &Rows) -> RowWords {
+    std::array::from_fn(|place| halves(rows[place / 2])[place % 2])
+}
+
+fn to_rows(words: &RowWords) -> Rows {
+    std::array::from_fn(|u| whole(words[2 * u], words[2 * u + 1]))
 }
 
 /// What prepare answered, the number of the report's bytes or its refusal; the place of the next line; and the number of the piece's bytes.
@@ -59,22 +89,23 @@ pub fn lines(size: usize, report: &[u8], from: usize, out: &mut [u8]) -> Piece {
     piece(answer)
 }
 
-/// The rows of the core of an order among the badges of a base set, its members, and their least degree; 64 where there is none.
-pub fn peel(rows: &[u64; 64], base: u64, order: usize) -> ([u64; 64], u64, usize) {
-    let (mut out, mut answer) = ([u64::MAX; 64], [u64::MAX; 2]);
-    unsafe { probe_peel(rows, base, order, &mut out, &mut answer) };
-    (out, answer[0], answer[1] as usize)
+/// The rows of the core of an order among the badges of a base set, its members, and their least degree; 128 where there is none.
+pub fn peel(rows: &Rows, base: u128, order: usize) -> (Rows, u128, usize) {
+    let ([low, high], mut out, mut answer) = (halves(base), [u64::MAX; 256], [u64::MAX; 3]);
+    unsafe { probe_peel(&to_words(rows), low, high, order, &mut out, &mut answer) };
+    (to_rows(&out), whole(answer[0], answer[1]), answer[2] as usize)
 }
 
-pub fn core_numbers(rows: &[u64; 64], base: u64) -> [u8; 64] {
-    let mut out = [u8::MAX; 64];
-    unsafe { probe_core_numbers(rows, base, &mut out) };
+pub fn core_numbers(rows: &Rows, base: u128) -> [u8; 128] {
+    let ([low, high], mut out) = (halves(base), [u8::MAX; 128]);
+    unsafe { probe_core_numbers(&to_words(rows), low, high, &mut out) };
     out
 }
 
 /// The core of the largest order above one order and up to another that contains the query: its order and its members, and the rows as they came back.
-pub fn highest_core(rows: &[u64; 64], base: u64, query: u64, above: u8, most: u8) -> (u8, u64, [u64; 64]) {
-    let (mut out, mut answer) = ([u64::MAX; 64], [u64::MAX; 2]);
-    unsafe { probe_highest_core(rows, base, query, above, most, &mut out, &mut answer) };
-    (answer[0] as u8, answer[1], out)
+pub fn highest_core(rows: &Rows, base: u128, query: u128, above: u8, most: u8) -> (u8, u128, Rows) {
+    let ([low, high], [query_low, query_high]) = (halves(base), halves(query));
+    let (mut out, mut answer) = ([u64::MAX; 256], [u64::MAX; 3]);
+    unsafe { probe_highest_core(&to_words(rows), low, high, query_low, query_high, above, most, &mut out, &mut answer) };
+    (answer[0] as u8, whole(answer[1], answer[2]), to_rows(&out))
 }
