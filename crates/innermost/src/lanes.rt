@@ -128,7 +128,7 @@ fn add_word(p: Planes, rows: &[u64], word: u64, from: usize, side: usize) -> Pla
 
 // The in-degrees in a set of the badges of one side, counted at order k: each lane has k, less the in-degree, above the largest number that is below half of
 // what there is room for. So the last plane has the badges whose in-degree is below k.
-fn count_side(rows: &[u64], s: BadgeSet, k: usize, side: usize) -> Planes
+fn count_rows(rows: &[u64], s: BadgeSet, k: usize, side: usize) -> Planes
     requires { ⌜ (length (now rows) ≡ rowWords) × (1 ≤ k) × (k ≤ half) × (side < setWords) ⌝ }
     ensures { λ r. ⌜ CountingSide (graph (now (rows .entry))) (members s) k side (planesOf r) ⌝ }
 {
@@ -142,8 +142,16 @@ fn count_side(rows: &[u64], s: BadgeSet, k: usize, side: usize) -> Planes
     planes::complement(sums)
 }
 
-// The in-degrees in a set, counted at order k; those of the upper word where the set has badges there. The rows come as an array: of a slice made from it, it is
-// known how many words it has.
+// The same. The rows come as an array: of a slice made from it, it is known how many words it has; and the compiler sees that they are only read, and copies
+// them nowhere.
+fn count_side(rows: &[u64; ROW_WORDS], s: BadgeSet, k: usize, side: usize) -> Planes
+    requires { ⌜ (1 ≤ k) × (k ≤ half) × (side < setWords) ⌝ }
+    ensures { λ r. ⌜ CountingSide (graph (now (rows .entry))) (members s) k side (planesOf r) ⌝ }
+{
+    count_rows(rows, s, k, side)
+}
+
+// The in-degrees in a set, counted at order k; those of the upper word where the set has badges there.
 pub(crate) fn count(rows: &[u64; ROW_WORDS], s: BadgeSet, k: usize) -> Degrees
     requires { ⌜ (1 ≤ k) × (k ≤ half) ⌝ }
     ensures { λ r. ⌜ Counting (graph (now (rows .entry))) (members s) k (numberOf r) ⌝ }

@@ -10,7 +10,7 @@ use Rattle.innermost.proofs.lanes.count.Statement.{statement}
 use Rattle.innermost.proofs.lanes.count.Tie as tie
 
 count-side-requires : tie.Need-count-side-requires
-count-side-requires c κs = let p = c .before .pre in (c .count-side-arg .given .0, p .0, p .1, omega arith)
+count-side-requires c κs = let p = c .pre in (p .0, p .1, omega arith)
 
 word-requires : tie.Need-word-requires
 word-requires c κs = search needs
@@ -25,15 +25,15 @@ returns : tie.Need-returns
 returns c =
     let w = c .before .before in
     let l = w .before in
-    sides-counted (wide (l .before .before)) _ (l .count-side .ensures) (λ f. absurd (f (sym (w .word .ensures) ∙ c .before .if1 .taken)))
+    sides-counted (wide (l .before)) _ (l .count-side .ensures) (λ f. absurd (f (sym (w .word .ensures) ∙ c .before .if1 .taken)))
 
 count-side-requires-2 : tie.Need-count-side-requires-2
-count-side-requires-2 c κs = let p = c .before .before .before .before .before .pre in (c .count-side-arg2 .given .0, p .0, p .1, omega arith)
+count-side-requires-2 c κs = let p = c .before .before .before .pre in (p .0, p .1, omega arith)
 
 returns-2 : tie.Need-returns-2
 returns-2 c =
-    let l = c .before .before .before .before in
-    sides-counted (wide (l .before .before)) _ (l .count-side .ensures) (λ f. c .count-side2 .ensures)
+    let l = c .before .before .before in
+    sides-counted (wide (l .before)) _ (l .count-side .ensures) (λ f. c .count-side2 .ensures)
 
 pub count-spec : {M : Type 1} → statement M
 count-spec = tie.close (tie.spec count-side-requires word-requires constant-requires returns count-side-requires-2 returns-2)

@@ -1,4 +1,4 @@
--- `lanes::count_side` meets its contract: before a turn the rows of the badges of the words before i are added, and the complement of the sums counts.
+-- `lanes::count_rows` meets its contract: before a turn the rows of the badges of the words before i are added, and the complement of the sums counts.
 use mathlib.Core.Path.{refl}
 use Prim.Native.Nat.{_-_, _^_, _≤_, _<_}
 use native.Mathlib.Omega.{arith}
@@ -9,8 +9,8 @@ use Rattle.sets.proofs.Pairs.{members-lt}
 use Rattle.planes.specs.Lanes.{planesOf}
 use Rattle.cores.specs.Rows.{graph}
 use Rattle.innermost.proofs.CountedDegrees.{AddingWords, words-none, words-more, words-done, side-counted}
-use Rattle.innermost.proofs.lanes.count_side.Statement.{statement}
-use Rattle.innermost.proofs.lanes.count_side.Tie as tie
+use Rattle.innermost.proofs.lanes.count_rows.Statement.{statement}
+use Rattle.innermost.proofs.lanes.count_rows.Tie as tie
 
 abbrev Inv-loop : tie.InvT-loop
 Inv-loop rows s k side sums₀ i₀ sums i = (i ≤ setWords) × AddingWords (graph rows) (members s) side i (planesOf sums₀) (planesOf sums)
@@ -67,8 +67,8 @@ returns c =
     let s = k .before .before in
     side-counted (wide s) (omega arith) (omega arith) refl refl (k .constant .ensures) (words-done (wide s) (l .loop .inv .1) (omega arith)) (c .complement .ensures)
 
-pub count-side-spec : {M : Type 1} → statement M
-count-side-spec =
+pub count-rows-spec : {M : Type 1} → statement M
+count-rows-spec =
     tie.close
     (tie.spec
     Inv-loop
