@@ -1,19 +1,20 @@
 -- Laws of rows in the words of an array: the sets of one tick over rows, and the union of rows.
-use mathlib.Core.Path.{_≡_, sym, ap, _∙_}
+use mathlib.Core.Path.{_≡_, refl, sym, ap, _∙_}
 use mathlib.Core.List.{List}
 use mathlib.Core.Logic.{_⊎_, inl, inr, by-cases}
 use Prim.Native.Nat.{ℕ, zero, suc, _+_, _*_, _≤_, _<_, zero-le}
 use native.Mathlib.Decide.{decLt}
 use native.Mathlib.Omega.{arith}
 use lib.ListN.{length, getD}
+use borrow.Author.Tests.{lt-ltb, le-ltb}
 use Rattle.sets.specs.Sets.{In, full}
 use Rattle.sets.specs.Members.{capacity, rowWords}
 use Rattle.sets.specs.Tables.{tabulate, piecewise}
-use Rattle.sets.specs.Words.{setWords, Words, places, setAt, wordsOf}
+use Rattle.sets.specs.Words.{wordBits, setWords, Words, places, setAt, wordsOf}
 use Rattle.sets.proofs.Sets.{not-in-none, in-union-left, in-union-right, of-union, in-full, of-full, ext}
 use Rattle.sets.proofs.Tables.{tabulate-length, tabulate-at, tabulate-same, piecewise-in, piecewise-out}
 use Rattle.sets.proofs.Places.{set-at-out, set-at-same, set-at-lt, sets-same, words-of-length, set-at-sets, words-fit}
-use Rattle.checks.specs.Arrays.{tickOver, unionOf}
+use Rattle.checks.specs.Arrays.{tickOver, inUse, unionOf}
 use Rattle.checks.specs.Changes.{UnionOver}
 
 -- the sets of a tick over rows fit
@@ -79,10 +80,9 @@ over-empty tick rows h = tabulate-same capacity _ _ (λ u l.
     (λ p. piecewise-in (full (places tick)) _ _ u (in-full _ u p))
     (λ p. piecewise-out (full (places tick)) _ _ u (λ i. p (of-full _ u i)) ∙ h u (omega arith) ∙ sym (set-at-out tick u (omega arith))))
 
--- s has every badge that is in some row of a badge that a set can hold, and no other
-pub record Unites (rows : List ℕ) (s : ℕ) : Type 0 where
-  pub has : (u v : ℕ) → u < capacity → In (setAt rows u) v → In s v
-  pub of : (v : ℕ) → In s v → (u : ℕ) × In (setAt rows u) v
+-- s has every badge that is in one of the first n rows
+pub record Unites (n : ℕ) (rows : List ℕ) (s : ℕ) : Type 0 where
+  pub has : (u v : ℕ) → u < n → In (setAt rows u) v → In s v
 
 -- the union is such a set
 union-has : (rows : List ℕ) (m u v : ℕ) → u < m → In (setAt rows u) v → In (unionOf m rows) v
@@ -102,11 +102,24 @@ union-of rows (suc m) v i = go (union-of rows m v) (of-union (unionOf m rows) (s
     go ih (inl j) = let x = ih j in (x .0, omega (arith, x .1), x .2)
     go ih (inr j) = (m, omega arith, j)
 
-pub unites : (rows : List ℕ) {s : ℕ} → s ≡ unionOf capacity rows → Unites rows s
-unites rows e = rw e (record { has = union-has rows capacity; of = λ v i. let x = union-of rows capacity v i in (x .0, x .2) })
+-- above the badges of the first word all are in use, up to them those
+pub in-use-all : (n : ℕ) → wordBits < n → inUse n ≡ capacity
+unfolding inUse
+in-use-all n l = rw (lt-ltb wordBits n l, inUse) refl
 
--- and every union over all rows is it
-pub union-over : (rows : List ℕ) {m s : ℕ} → m ≡ capacity → UnionOver (setAt rows) 0 m s → s ≡ unionOf capacity rows
+pub in-use-word : (n : ℕ) → n ≤ wordBits → inUse n ≡ wordBits
+unfolding inUse
+in-use-word n l = rw (le-ltb wordBits n l, inUse) refl
+
+-- the words in use have every badge
+all-in-use : (n : ℕ) → n ≤ capacity → n ≤ inUse n
+all-in-use n l = by-cases (decLt wordBits n) (λ m. rw (in-use-all n m) l) (λ m. rw (in-use-word n (omega (arith, m))) (omega (arith, m)))
+
+pub unites : {n : ℕ} → n ≤ capacity → (rows : List ℕ) {s : ℕ} → s ≡ unionOf (inUse n) rows → Unites n rows s
+unites {n = n} l rows e = rw e (record { has = λ u v m i. union-has rows (inUse n) u v (omega (arith, m, all-in-use n l)) i })
+
+-- and every union over the first m rows is it
+pub union-over : (rows : List ℕ) {m k s : ℕ} → m ≡ k → UnionOver (setAt rows) 0 m s → s ≡ unionOf k rows
 union-over rows {s = s} e h = rw e at (ext s _
     (λ v i. let x = h .of v i in union-has rows _ (x .0) v (x .2) (x .3))
     (λ v i. let x = union-of rows _ v i in h .has (x .0) v zero-le (x .1) (x .2)))

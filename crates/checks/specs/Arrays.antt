@@ -1,14 +1,20 @@
 -- Rows in the words of an array, a set for each badge that a set can hold.
+use mathlib.Core.Bool.{true, false}
 use mathlib.Core.List.{List}
 use Prim.Native.Nat.{ℕ, zero, suc}
+use lib.Dec.{ltb}
 use Rattle.sets.specs.Sets.{union, full}
 use Rattle.sets.specs.Members.{capacity}
 use Rattle.sets.specs.Tables.{tabulate, piecewise}
-use Rattle.sets.specs.Words.{places, setAt}
+use Rattle.sets.specs.Words.{wordBits, places, setAt}
 
 -- the rows with the sets of one tick over them: the tick's, as far as there are, then those that were there
 unfoldable pub tickOver : List ℕ → List ℕ → List ℕ
 tickOver tick rows = tabulate capacity (piecewise (full (places tick)) (setAt tick) (setAt rows))
+
+-- the badges of the words that sets of n badges use: those of the first word, or all
+unfoldable pub inUse : ℕ → ℕ
+inUse n = elim (ltb wordBits n) [ true ↦ capacity | false ↦ wordBits ]
 
 -- every badge that is in one of the first m rows
 unfoldable pub unionOf : ℕ → List ℕ → ℕ

@@ -4,12 +4,13 @@ ghost use Prim.Native.Nat.{_+_, _<_, min};
 ghost use lib.ListN.{length};
 ghost use Rattle.sets.specs.Members.{capacity, rowWords, members};
 ghost use Rattle.sets.specs.Words.{places, setAt, wordsOf};
-ghost use Rattle.checks.specs.Arrays.{tickOver, unionOf};
+ghost use Rattle.checks.specs.Arrays.{tickOver, inUse, unionOf};
 ghost use Rattle.checks.specs.Changes.{UnionOver};
 use sets::BadgeSet;
 use sets::CAPACITY;
 use sets::ROW_WORDS;
 use sets::SET_WORDS;
+use sets::WORD_BITS;
 use sets::set_at;
 
 // The smaller of a tick's number of sets and the number of rows.
@@ -46,12 +47,18 @@ fn two_rows(rows: &[u64], u: usize) -> BadgeSet
     set_at(rows, u).union(set_at(rows, u + 1))
 }
 
-// Every badge that is in some row, eight rows in a turn: in so few turns of known places, the compiler leaves no test of a place.
-fn unite(rows: &[u64]) -> BadgeSet
-    ensures { λ r. ⌜ members r ≡ unionOf capacity (now (rows .entry)) ⌝ }
+// Every badge that is in some row of a badge of the words in use, eight rows in a turn: in so few turns of known places, the compiler leaves no test of a
+// place. Of n badges that are in the first word, no row of a later one is looked at.
+fn unite(rows: &[u64], n: usize) -> BadgeSet
+    ensures { λ r. ⌜ members r ≡ unionOf (inUse n) (now (rows .entry)) ⌝ }
 {
     let mut all = BadgeSet::EMPTY;
     for i in 0..CAPACITY / 8 {
+        if i == WORD_BITS / 8 {
+            if n <= WORD_BITS {
+                break;
+            }
+        }
         let first = two_rows(rows, 8 * i).union(two_rows(rows, 8 * i + 2));
         let second = two_rows(rows, 8 * i + 4).union(two_rows(rows, 8 * i + 6));
         let next = all.union(first.union(second));
@@ -60,9 +67,9 @@ fn unite(rows: &[u64]) -> BadgeSet
     all
 }
 
-// Every badge that is in some row, of rows in an array.
-pub fn united(rows: &[u64; ROW_WORDS]) -> BadgeSet
-    ensures { λ r. ⌜ members r ≡ unionOf capacity (now (rows .entry)) ⌝ }
+// Every badge that is in some row of a badge of the words that n badges use, of rows in an array.
+pub fn united(rows: &[u64; ROW_WORDS], n: usize) -> BadgeSet
+    ensures { λ r. ⌜ members r ≡ unionOf (inUse n) (now (rows .entry)) ⌝ }
 {
-    unite(&rows[..])
+    unite(&rows[..], n)
 }

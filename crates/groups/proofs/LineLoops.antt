@@ -66,7 +66,7 @@ module _ {n T : ℕ} {ws : List ℕ} {base query first last lower upper : ℕ} {
       record { score = e; new = sym (new-no n ws base query first last (omega (arith, a .below))); rows-to = a .rows-to; counted = λ p q. absurd (omega arith) }
 
   -- elsewhere the core is found from the span's rows, among the reviewed badges that are in some row
-  pub core-found : {longer : List ℕ} {s t enough order members all large : ℕ} → longer ≡ spanWords n ws first last → Unites longer s → t ≡ intersection s base
+  pub core-found : {longer : List ℕ} {s t enough order members all large : ℕ} → longer ≡ spanWords n ws first last → Unites n longer s → t ≡ intersection s base
       → HighestFound (graph longer) t query lower upper order members → (1 ≤ enough → Counted (circles (graph longer) members) enough all large) → CoreFound n ws base query first last enough order members all large longer last
   unfolding scoreOn coreOn highestOrder
   core-found {longer} {s} {t} {enough} {order} {members} {all} {large} e b q h k =

@@ -64,7 +64,7 @@ module _ {n T : ℕ} {ws : List ℕ} {first last : ℕ} (d : SpanOfDay n T ws fi
 -- ---- the badges that are in some row
 
 -- Every core of order 1 or more, of badges of a set, is among those of the set that are in some row.
-module _ {n T : ℕ} {ws : List ℕ} {first last : ℕ} (d : SpanOfDay n T ws first last) {rows : List ℕ} (e : rows ≡ spanWords n ws first last) {s : ℕ} (b : Unites rows s) {base : ℕ} (r : Sub base (full n)) where
+module _ {n T : ℕ} {ws : List ℕ} {first last : ℕ} (d : SpanOfDay n T ws first last) {rows : List ℕ} (e : rows ≡ spanWords n ws first last) {s : ℕ} (b : Unites n rows s) {base : ℕ} (r : Sub base (full n)) where
   member : (j : ℕ) → 1 ≤ j → (v : ℕ) → In (core (graph rows) base j) v → In (intersection s base) v
   unfolding degree
   member j l v i =
@@ -73,7 +73,7 @@ module _ {n T : ℕ} {ws : List ℕ} {first last : ℕ} (d : SpanOfDay n T ws fi
       let p : 1 ≤ size (intersection (graph rows v) (core (graph rows) base j)) = le-trans l (core-cohesive (graph rows) base j .each v i) in
       let x = some (intersection (graph rows v) (core (graph rows) base j)) (λ z. omega (arith, ap size z, size-none)) in
       let u = below (x .0) (of-intersection-right (graph rows v) (core (graph rows) base j) (x .0) (x .1)) in
-      let here = b .has (x .0) v (omega (arith, u, few d e)) (back d e v (x .0) (below v i) u (of-intersection-left (graph rows v) (core (graph rows) base j) (x .0) (x .1))) in
+      let here = b .has (x .0) v u (back d e v (x .0) (below v i) u (of-intersection-left (graph rows v) (core (graph rows) base j) (x .0) (x .1))) in
       in-intersection s base v here (within .at v i)
 
   fewer-badges : Sub (intersection s base) base

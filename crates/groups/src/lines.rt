@@ -74,7 +74,7 @@ pub(crate) fn find_line(
         }
         narrow_to(&mut rows, words, day, first, reached, last);
         reached = last;
-        let met = united(&rows);
+        let met = united(&rows, day.badges);
         let base = met.intersection(day.review);
         let core = highest_core(rows, base, query, lower, upper);
         let back = core.rows;

@@ -1,25 +1,27 @@
--- `unite` meets its contract: after i turns the set is the union over 8 * i rows.
+-- `unite` meets its contract: after i turns the set is the union over 8 * i rows, and past those of the first word n is above its badges.
 use mathlib.Core.Path.{refl}
-use Prim.Native.Nat.{_*_, _-_, _≤_}
+use mathlib.Core.Logic.{inl, inr, by-cases}
+use Prim.Native.Nat.{_*_, _-_, _≤_, _<_}
+use native.Mathlib.Decide.{decLt}
 use native.Mathlib.Omega.{arith}
 use borrow.Author.Needs.{needs}
 use Rattle.sets.specs.Members.{capacity, members}
-use Rattle.sets.specs.Words.{fromWords, setAt}
+use Rattle.sets.specs.Words.{wordBits, fromWords, setAt}
 use Rattle.checks.specs.Changes.{UnionOver}
 use Rattle.checks.proofs.Changes.{union-none, union-join}
-use Rattle.checks.proofs.TickRows.{union-over}
+use Rattle.checks.proofs.TickRows.{in-use-all, in-use-word, union-over}
 use Rattle.checks.proofs.rows.unite.Statement.{statement}
 use Rattle.checks.proofs.rows.unite.Tie as tie
 
 abbrev Inv-loop : tie.InvT-loop
-Inv-loop rows all₀ i₀ all i = (8 * i ≤ capacity) × UnionOver (setAt rows) 0 (8 * i) (members all)
+Inv-loop rows n all₀ i₀ all i = (8 * i ≤ capacity) × UnionOver (setAt rows) 0 (8 * i) (members all) × (wordBits < 8 * i → wordBits < n)
 
 abbrev μ-loop : tie.MeasureT-loop
-μ-loop rows all₀ i₀ all i = capacity - i
+μ-loop rows n all₀ i₀ all i = capacity - i
 
 loop-holds : tie.Need-loop-holds Inv-loop μ-loop
 unfolding fromWords
-loop-holds c = (search needs, union-none _ 0)
+loop-holds c = (search needs, union-none _ 0, λ l. absurd (omega arith))
 
 mul-two-rows : tie.Need-mul-two-rows Inv-loop μ-loop
 mul-two-rows c = search needs
@@ -77,14 +79,21 @@ loop-again c =
     let b = c .before in
     let s = b .before in
     let f = s .before .before .before in
-    let l = f .before .before .before .before in
+    let j = f .before .before .before in
+    let l = j .before .before in
     let first = union-join (f .before .before .two-rows .ensures) (f .before .two-rows2 .ensures) (f .union .ensures) (omega arith) (omega arith) (omega arith) refl in
     let second = union-join (s .before .before .two-rows3 .ensures) (s .before .two-rows4 .ensures) (s .union2 .ensures) (omega arith) (omega arith) (omega arith) refl in
-    let both = union-join first second (b .union3 .ensures) (omega arith) (omega arith) (omega arith) refl in
-    (omega arith, union-join (l .loop .inv .1) both (c .union4 .ensures) (omega arith) (omega arith) (omega arith) (omega arith))
+    let both = union-join first second (b .union3 .ensures) (omega arith) (omega arith) (omega arith) refl in (
+      omega arith,
+      union-join (l .loop .inv .1) both (c .union4 .ensures) (omega arith) (omega arith) (omega arith) (omega arith),
+      λ m. elim (j .if1 .came) [ inl h ↦ h .1 .left | inr h ↦ by-cases (decLt wordBits (8 * l .loop .i)) (l .loop .inv .2) (λ k. absurd (h .left (omega (arith, m, k)))) ],
+    )
 
 returns : tie.Need-returns Inv-loop μ-loop
-returns c = union-over _ (omega arith) (c .before .loop .inv .1)
+returns c = let v = c .before .loop .inv in union-over _ (omega (arith, in-use-all _ (v .2 (omega arith)))) (v .1)
+
+returns-2 : tie.Need-returns-2 Inv-loop μ-loop
+returns-2 c = let v = c .before .before .before .loop .inv in union-over _ (omega (arith, c .before .if1 .taken, in-use-word _ (c .if2 .taken))) (v .1)
 
 pub unite-spec : {M : Type 1} → statement M
 unite-spec =
@@ -111,4 +120,5 @@ unite-spec =
     add-i
     loop-less
     loop-again
-    returns)
+    returns
+    returns-2)
