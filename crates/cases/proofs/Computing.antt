@@ -51,7 +51,7 @@ use Rattle.cases.specs.Table.{sevens, d1Log, d1Variant, d1Report, changi
 use Rattle.cases.specs.Further.{nestedLog, nestedWords, further}
 use Rattle.cases.specs.Example.{exampleLog, exampleWords, exampleTidy, eastLog, westLog, bothWords, example}
 use Rattle.cases.specs.Requests.{triple, couple, nobody, without2, without3, missing, missingWords, repeating, repeatingWords, fourTicks, cliqueWords, ringWords, aroundWords, requested}
-use Rattle.cases.specs.BiggerWards.{wideLog, wideTidy, wideTick, wideWords, three, badge64, calm64, foreign64, wide}
+use Rattle.cases.specs.BiggerWards.{wideLog, wideTidy, wideWords, twoTicks, three, badge64, calm64, foreign64, wide}
 
 -- sets and lists
 sets-computing : ℕ
@@ -80,5 +80,5 @@ text-computing = 0
 
 -- the tables
 unfoldable pub computing : ℕ
-unfolding text-computing badges tiesWords apartWords leavingWords crossingWords risingWords fallingWords atOnceWords twoSourcesWords BH CT ED RH GR PH PT RW GW PW QW Holds sevens d1Log d1Words d1Variant d1Report changingLog changingWords emptyLog emptyWords equalBadges starred nestedLog nestedWords further exampleLog exampleWords exampleTidy eastLog westLog bothWords example triple couple nobody without2 without3 missing missingWords repeating repeatingWords fourTicks cliqueWords ringWords aroundWords requested wideLog wideTidy wideTick wideWords three badge64 calm64 foreign64 wide
+unfolding text-computing badges tiesWords apartWords leavingWords crossingWords risingWords fallingWords atOnceWords twoSourcesWords BH CT ED RH GR PH PT RW GW PW QW Holds sevens d1Log d1Words d1Variant d1Report changingLog changingWords emptyLog emptyWords equalBadges starred nestedLog nestedWords further exampleLog exampleWords exampleTidy eastLog westLog bothWords example triple couple nobody without2 without3 missing missingWords repeating repeatingWords fourTicks cliqueWords ringWords aroundWords requested wideLog wideTidy wideWords twoTicks three badge64 calm64 foreign64 wide
 computing = 0
