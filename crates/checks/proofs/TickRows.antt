@@ -2,7 +2,7 @@
 use mathlib.Core.Path.{_≡_, refl, sym, ap, _∙_}
 use mathlib.Core.List.{List}
 use mathlib.Core.Logic.{_⊎_, inl, inr, by-cases}
-use Prim.Native.Nat.{ℕ, zero, suc, _+_, _*_, _≤_, _<_, zero-le}
+use Prim.Native.Nat.{ℕ, zero, suc, _+_, _*_, _/_, _≤_, _<_, zero-le}
 use native.Mathlib.Decide.{decLt}
 use native.Mathlib.Omega.{arith}
 use lib.ListN.{length, getD}
@@ -102,18 +102,28 @@ union-of rows (suc m) v i = go (union-of rows m v) (of-union (unionOf m rows) (s
     go ih (inl j) = let x = ih j in (x .0, omega (arith, x .1), x .2)
     go ih (inr j) = (m, omega arith, j)
 
--- above the badges of the first word all are in use, up to them those
+-- above the bits of a word all rows are in use, up to them as many as these, and up to half of them as many as that
 pub in-use-all : (n : ℕ) → wordBits < n → inUse n ≡ capacity
 unfolding inUse
-in-use-all n l = rw (lt-ltb wordBits n l, inUse) refl
+in-use-all n l = rw (lt-ltb (wordBits / 2) n (omega (arith, l)), lt-ltb wordBits n l, inUse) refl
 
-pub in-use-word : (n : ℕ) → n ≤ wordBits → inUse n ≡ wordBits
+pub in-use-word : (n : ℕ) → wordBits / 2 < n → n ≤ wordBits → inUse n ≡ wordBits
 unfolding inUse
-in-use-word n l = rw (le-ltb wordBits n l, inUse) refl
+in-use-word n m l = rw (lt-ltb (wordBits / 2) n m, le-ltb wordBits n l, inUse) refl
 
--- the words in use have every badge
+pub in-use-half : (n : ℕ) → n ≤ wordBits / 2 → inUse n ≡ wordBits / 2
+unfolding inUse
+in-use-half n l = rw (le-ltb (wordBits / 2) n l, inUse) refl
+
+-- the rows in use have those of all n badges
 all-in-use : (n : ℕ) → n ≤ capacity → n ≤ inUse n
-all-in-use n l = by-cases (decLt wordBits n) (λ m. rw (in-use-all n m) l) (λ m. rw (in-use-word n (omega (arith, m))) (omega (arith, m)))
+all-in-use n l =
+    by-cases (decLt wordBits n)
+    (λ m. rw (in-use-all n m) l)
+    (λ m.
+    by-cases (decLt (wordBits / 2) n)
+    (λ k. rw (in-use-word n k (omega (arith, m))) (omega (arith, m)))
+    (λ k. rw (in-use-half n (omega (arith, k))) (omega (arith, k))))
 
 pub unites : {n : ℕ} → n ≤ capacity → (rows : List ℕ) {s : ℕ} → s ≡ unionOf (inUse n) rows → Unites n rows s
 unites {n = n} l rows e = rw e (record { has = λ u v m i. union-has rows (inUse n) u v (omega (arith, m, all-in-use n l)) i })

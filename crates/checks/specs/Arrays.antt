@@ -1,7 +1,7 @@
 -- Rows in the words of an array, a set for each badge that a set can hold.
 use mathlib.Core.Bool.{true, false}
 use mathlib.Core.List.{List}
-use Prim.Native.Nat.{ℕ, zero, suc}
+use Prim.Native.Nat.{ℕ, zero, suc, _/_}
 use lib.Dec.{ltb}
 use Rattle.sets.specs.Sets.{union, full}
 use Rattle.sets.specs.Members.{capacity}
@@ -12,9 +12,9 @@ use Rattle.sets.specs.Words.{wordBits, places, setAt}
 unfoldable pub tickOver : List ℕ → List ℕ → List ℕ
 tickOver tick rows = tabulate capacity (piecewise (full (places tick)) (setAt tick) (setAt rows))
 
--- the badges of the words that sets of n badges use: those of the first word, or all
+-- how many rows are looked at of n badges: as many as half a word has bits, as a word has, or all
 unfoldable pub inUse : ℕ → ℕ
-inUse n = elim (ltb wordBits n) [ true ↦ capacity | false ↦ wordBits ]
+inUse n = elim (ltb (wordBits / 2) n) [ true ↦ elim (ltb wordBits n) [ true ↦ capacity | false ↦ wordBits ] | false ↦ wordBits / 2 ]
 
 -- every badge that is in one of the first m rows
 unfoldable pub unionOf : ℕ → List ℕ → ℕ

@@ -47,13 +47,18 @@ fn two_rows(rows: &[u64], u: usize) -> BadgeSet
     set_at(rows, u).union(set_at(rows, u + 1))
 }
 
-// Every badge that is in some row of a badge of the words in use, eight rows in a turn: in so few turns of known places, the compiler leaves no test of a
-// place. Of n badges that are in the first word, no row of a later one is looked at.
+// Every badge that is in one of the rows in use, eight rows in a turn: in so few turns of known places, the compiler leaves no test of a place. Of n badges
+// that are in the first word, or in its lower half, no later row is looked at.
 fn unite(rows: &[u64], n: usize) -> BadgeSet
     ensures { λ r. ⌜ members r ≡ unionOf (inUse n) (now (rows .entry)) ⌝ }
 {
     let mut all = BadgeSet::EMPTY;
     for i in 0..CAPACITY / 8 {
+        if i == WORD_BITS / 16 {
+            if n <= WORD_BITS / 2 {
+                break;
+            }
+        }
         if i == WORD_BITS / 8 {
             if n <= WORD_BITS {
                 break;
@@ -67,7 +72,7 @@ fn unite(rows: &[u64], n: usize) -> BadgeSet
     all
 }
 
-// Every badge that is in some row of a badge of the words that n badges use, of rows in an array.
+// Every badge that is in one of the rows in use of n badges, of rows in an array. Rows that are empty from n on have no other.
 pub fn united(rows: &[u64; ROW_WORDS], n: usize) -> BadgeSet
     ensures { λ r. ⌜ members r ≡ unionOf (inUse n) (now (rows .entry)) ⌝ }
 {

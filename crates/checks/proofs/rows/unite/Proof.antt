@@ -1,7 +1,7 @@
--- `unite` meets its contract: after i turns the set is the union over 8 * i rows, and past those of the first word n is above its badges.
+-- `unite` meets its contract: after i turns the set is the union over 8 * i rows, and past those of half a word, or of a word, n is above them.
 use mathlib.Core.Path.{refl}
 use mathlib.Core.Logic.{inl, inr, by-cases}
-use Prim.Native.Nat.{_*_, _-_, _≤_, _<_}
+use Prim.Native.Nat.{_*_, _/_, _-_, _≤_, _<_}
 use native.Mathlib.Decide.{decLt}
 use native.Mathlib.Omega.{arith}
 use borrow.Author.Needs.{needs}
@@ -9,19 +9,19 @@ use Rattle.sets.specs.Members.{capacity, members}
 use Rattle.sets.specs.Words.{wordBits, fromWords, setAt}
 use Rattle.checks.specs.Changes.{UnionOver}
 use Rattle.checks.proofs.Changes.{union-none, union-join}
-use Rattle.checks.proofs.TickRows.{in-use-all, in-use-word, union-over}
+use Rattle.checks.proofs.TickRows.{in-use-all, in-use-word, in-use-half, union-over}
 use Rattle.checks.proofs.rows.unite.Statement.{statement}
 use Rattle.checks.proofs.rows.unite.Tie as tie
 
 abbrev Inv-loop : tie.InvT-loop
-Inv-loop rows n all₀ i₀ all i = (8 * i ≤ capacity) × UnionOver (setAt rows) 0 (8 * i) (members all) × (wordBits < 8 * i → wordBits < n)
+Inv-loop rows n all₀ i₀ all i = (8 * i ≤ capacity) × UnionOver (setAt rows) 0 (8 * i) (members all) × (wordBits / 2 < 8 * i → wordBits / 2 < n) × (wordBits < 8 * i → wordBits < n)
 
 abbrev μ-loop : tie.MeasureT-loop
 μ-loop rows n all₀ i₀ all i = capacity - i
 
 loop-holds : tie.Need-loop-holds Inv-loop μ-loop
 unfolding fromWords
-loop-holds c = (search needs, union-none _ 0, λ l. absurd (omega arith))
+loop-holds c = (search needs, union-none _ 0, λ l. absurd (omega arith), λ l. absurd (omega arith))
 
 mul-two-rows : tie.Need-mul-two-rows Inv-loop μ-loop
 mul-two-rows c = search needs
@@ -80,20 +80,25 @@ loop-again c =
     let s = b .before in
     let f = s .before .before .before in
     let j = f .before .before .before in
-    let l = j .before .before in
+    let i = j .before in
+    let l = i .before .before in
     let first = union-join (f .before .before .two-rows .ensures) (f .before .two-rows2 .ensures) (f .union .ensures) (omega arith) (omega arith) (omega arith) refl in
     let second = union-join (s .before .before .two-rows3 .ensures) (s .before .two-rows4 .ensures) (s .union2 .ensures) (omega arith) (omega arith) (omega arith) refl in
     let both = union-join first second (b .union3 .ensures) (omega arith) (omega arith) (omega arith) refl in (
       omega arith,
       union-join (l .loop .inv .1) both (c .union4 .ensures) (omega arith) (omega arith) (omega arith) (omega arith),
-      λ m. elim (j .if1 .came) [ inl h ↦ h .1 .left | inr h ↦ by-cases (decLt wordBits (8 * l .loop .i)) (l .loop .inv .2) (λ k. absurd (h .left (omega (arith, m, k)))) ],
+      λ m. elim (i .if1 .came) [ inl h ↦ h .1 .left | inr h ↦ by-cases (decLt (wordBits / 2) (8 * l .loop .i)) (l .loop .inv .2) (λ k. absurd (h .left (omega (arith, m, k)))) ],
+      λ m. elim (j .if3 .came) [ inl h ↦ h .1 .left | inr h ↦ by-cases (decLt wordBits (8 * l .loop .i)) (l .loop .inv .3) (λ k. absurd (h .left (omega (arith, m, k)))) ],
     )
 
 returns : tie.Need-returns Inv-loop μ-loop
-returns c = let v = c .before .loop .inv in union-over _ (omega (arith, in-use-all _ (v .2 (omega arith)))) (v .1)
+returns c = let v = c .before .loop .inv in union-over _ (omega (arith, in-use-all _ (v .3 (omega arith)))) (v .1)
 
 returns-2 : tie.Need-returns-2 Inv-loop μ-loop
-returns-2 c = let v = c .before .before .before .loop .inv in union-over _ (omega (arith, c .before .if1 .taken, in-use-word _ (c .if2 .taken))) (v .1)
+returns-2 c = let v = c .before .before .before .loop .inv in union-over _ (omega (arith, c .before .if1 .taken, in-use-half _ (c .if2 .taken))) (v .1)
+
+returns-3 : tie.Need-returns-3 Inv-loop μ-loop
+returns-3 c = let v = c .before .before .before .before .loop .inv in union-over _ (omega (arith, c .before .if3 .taken, in-use-word _ (v .2 (omega (arith, c .before .if3 .taken))) (c .if4 .taken))) (v .1)
 
 pub unite-spec : {M : Type 1} → statement M
 unite-spec =
@@ -121,4 +126,5 @@ unite-spec =
     loop-less
     loop-again
     returns
-    returns-2)
+    returns-2
+    returns-3)
