@@ -1,7 +1,6 @@
 // Document 01's cases that are not proved, and those of document 02's request Nine: 64 badges all in contact, and 128; n 129 or T 97; 8,000 contacts. What
 // the second implementation gives is written by hand, and the product has to agree with it; above 64 badges the product is held against the bytes alone.
-ghost use mathlib.Core.Path.{_≡_};
-ghost use lib.ListN.{length};
+ghost use Prim.Native.Nat.{_<_};
 use crate::answers::reads_as;
 use crate::answers::writes_groups;
 use crate::answers::writes_log;
@@ -21,30 +20,19 @@ use reference::first_bytes;
 use reference::judge;
 use reference::report;
 use sets::BadgeSet;
+use sets::SET_WORDS;
+use sets::put_set;
 
 // The words of the largest day.
 const WIDE_WORDS: usize = 24576;
 
-// The words of 64 badges that are all in contact in 96 ticks.
-fn all_in_contact() -> [u64; MAX_WORDS]
-    ensures { λ r. ⌜ 12288 ≡ length r ⌝ }
+// Fills words with the sets of n badges that are all in contact in every tick: all of them but the badge itself.
+fn put_all_in_contact(words: &mut [u64], n: usize)
+    requires { ⌜ 0 < n ⌝ }
 {
-    let mut words = [0u64; MAX_WORDS];
-    for i in 0..6144usize {
-        words[2 * i] = 0xffff_ffff_ffff_ffff ^ (1 << (i % 64));
+    for i in 0..words.len() / SET_WORDS {
+        put_set(words, i, BadgeSet::full(n).without(i % n));
     }
-    words
-}
-
-// The words of 128 badges that are all in contact in 96 ticks: every bit but that of the badge itself, in its first word or its second.
-fn all_of_128() -> [u64; WIDE_WORDS]
-    ensures { λ r. ⌜ 24576 ≡ length r ⌝ }
-{
-    let mut words = [0xffff_ffff_ffff_ffff; WIDE_WORDS];
-    for i in 0..12288usize {
-        words[2 * i + i / 64 % 2] = 0xffff_ffff_ffff_ffff ^ (1 << (i % 64));
-    }
-    words
 }
 
 // A case that came out right or not, where the second implementation gives some bytes.
@@ -62,7 +50,8 @@ pub(crate) fn order_63() -> Tally {
         ticks: 96,
         contacts: 0,
     };
-    let all = all_in_contact();
+    let mut all = [0u64; MAX_WORDS];
+    put_all_in_contact(&mut all, 64);
     let words: &[u64] = &all;
     let right = cases::numbers(words, day, 0, 95);
     let t = with_bytes(
@@ -98,7 +87,8 @@ fn with_wide(tally: Tally, got: groups::Written, buffer: &[u8], wanted: &[u8]) -
 
 // Of 128 badges every order is 127, and the marks are those of wide sets.
 pub(crate) fn order_127() -> Tally {
-    let words = all_of_128();
+    let mut words = [0u64; WIDE_WORDS];
+    put_all_in_contact(&mut words, 128);
     let words: &[u64] = &words;
     let all = BadgeSet::full(128);
     let mut buffer = [FILLER; 128];
@@ -117,7 +107,7 @@ pub(crate) fn order_127() -> Tally {
 
 // T 96 with 128 badges: a log without contacts is read into 24,576 words, which are those of a day then, and written.
 pub(crate) fn largest_day() -> Tally {
-    let mut words = all_of_128();
+    let mut words = [0xffff_ffff_ffff_ffff; WIDE_WORDS];
     let log: &[u8] = b"BH\x80\x60ED\x00\x00\x00\x00";
     let read = reads_as(log::read(log, &mut words), LARGEST);
     let mut buffer = [FILLER; 128];
