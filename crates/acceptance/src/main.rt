@@ -1,6 +1,9 @@
 // The test program: document 01's cases that are not proved, document 02's limit of the listing, and random logs and days, against a slow second
 // implementation.
 // Each family of cases prints one line: how many cases were run, and how many of them came out wrong.
+
+#![tactic(auto)]
+
 mod answers;
 mod cases;
 mod limits;

@@ -2,6 +2,9 @@
 //
 // A caller walks all circles of a set as `count_circles` does: it takes the circle of the smallest member, and goes on with the other members until
 // none is left. So each member's row is looked at once at most.
+
+#![tactic(auto)]
+
 ghost use Rattle.std.specs.Prelude.{◌≡◌, ◌∷◌, [], ◌+◌, ◌≤◌, length};
 ghost use Rattle.sets.specs.Members.{capacity, members, row_words};
 ghost use Rattle.cores.specs.Rows.{graph};

@@ -2,6 +2,9 @@
 //
 // `peel` takes rows to those of a core, with its members and their least degree, and `core_numbers` peels at rising orders, each among the
 // members that the last left.
+
+#![tactic(auto)]
+
 mod numbering;
 mod peeling;
 

@@ -4,6 +4,9 @@
 // reaches: each run before t has a tick or more, and so has each of the c + 1 runs from t on. Then it walks from tick 0, and ends each run at the
 // first tick that attains the greatest sum: so the list of ends is the first of those that attain it. Scores are in such a table, too: row first
 // tick, column last tick. Where a row of scores has zeros alone, as most have, the greatest sum is that of the runs after the first one.
+
+#![tactic(auto)]
+
 ghost use Rattle.std.specs.Prelude.{◌≡◌, ◌++◌, suc, ◌+◌, ◌-◌, ◌<◌, ◌≤◌, max, length, replicate};
 ghost use Rattle.cuts.specs.Sums.{first_greatest, best_ends, table_score, ends_of};
 ghost use Rattle.cuts.specs.Steps.{NoneAbove, GreatestOf, RowMaxima, row_after, run_sum, SmallAfter, IsGreatestSum, Filled};

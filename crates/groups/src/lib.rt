@@ -3,6 +3,9 @@
 // Each call takes day words and a set of badges under review: `core_numbers` with a span to the core number of each badge, `report` with thresholds to
 // the report of the day's groups that meet them, and `plan` with a query and a number of parts to the plan of the shift around the query.
 // `set_bytes` says how many bytes a set has in reports and plans of so many badges.
+
+#![tactic(auto)]
+
 mod answer;
 mod circling;
 mod day;

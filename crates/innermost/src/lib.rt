@@ -2,6 +2,9 @@
 //
 // `highest` and `highest_core` count, for all badges at once, in how many rows each badge is, while the order rises; for symmetric rows these are the
 // degrees. `highest_core` takes the rows by value, and gives them back.
+
+#![tactic(auto)]
+
 mod lanes;
 mod rising;
 

@@ -1,4 +1,7 @@
 // The listing program: reads a log from standard input and writes the listing of its groups, each circle as one, or of its refusal.
+
+#![tactic(auto)]
+
 use libc::{STDIN_FILENO, STDOUT_FILENO};
 use text::{Written, lines, prepare};
 

@@ -3,6 +3,9 @@
 // `read` takes a log into day words, `write` takes day words to their tidy log, and `tidy` takes a log to its tidy log; `check_words` is
 // the check that every call on words begins with, and `deliver` puts an answer into the buffer that is lent, `put` and `put_record` bytes and
 // records into memory of one's own. Nothing here knows of groups.
+
+#![tactic(auto)]
+
 mod columns;
 mod encoding;
 mod pairs;

@@ -1,6 +1,9 @@
 // Numbers in the lanes of words: bit v of each of eight words, the planes, gives the number of lane v in binary, the lowest bit first. One
 // instruction on the planes works on all lanes of a word. No public function has a precondition; a sum that has no room in eight planes
 // loses its highest digits, as a sum of words does.
+
+#![tactic(auto)]
+
 mod maximum;
 
 ghost use Rattle.std.specs.Prelude.{ℕ, ◌+◌};

@@ -1,5 +1,8 @@
 // Calls that C does not have, exported for the tests in Rust alone: the listing in pieces, and the cores of any rows. Each function is thin over
 // public functions, which its comment names, and leaves what they leave. A slice is a pointer and a length, an array a pointer.
+
+#![tactic(auto)]
+
 mod answers;
 
 ghost use Rattle.std.specs.Prelude.{◌≡◌, get_or};

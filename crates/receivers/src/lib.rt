@@ -1,4 +1,7 @@
 // The logs of several receivers, joined into one day: a contact counts if at least a quorum of them heard it.
+
+#![tactic(auto)]
+
 mod answer;
 mod joining;
 mod lengths;

@@ -1,5 +1,8 @@
 // The second implementation of documents 01 and 02, written plainly and slowly from their words alone, for tests to compare the product with. Here
 // too is what a test program wants beside it: random logs, counts of cases, bytes and words of a slice by position.
+
+#![tactic(auto)]
+
 mod bits;
 mod bytes;
 mod circles;

@@ -1,4 +1,7 @@
 // Sets of badges, and a byte as a number. A set goes in and comes back by value; no function has a precondition.
+
+#![tactic(auto)]
+
 mod widening;
 
 ghost use Rattle.std.specs.Prelude.{◌≡◌, ◌-◌, ◌/◌, min, eqb, get_or};

@@ -2,6 +2,9 @@
 //
 // `prepare` reads a log into day words and puts the report of its groups into a buffer. `lines` then fills a buffer with the next whole
 // lines, and answers how far it came: called again and again from where it came to, it gives the listing, piece by piece.
+
+#![tactic(auto)]
+
 mod decimal;
 mod fields;
 mod line;

@@ -1,4 +1,7 @@
 // What a report may ask of its groups at least. No function has a precondition: the ranges are tested where a call judges.
+
+#![tactic(auto)]
+
 ghost use Rattle.std.specs.Prelude.{◌≡◌};
 ghost use Rattle.sets.specs.Sets.{size};
 ghost use Rattle.sets.specs.Members.{members};

@@ -1,4 +1,7 @@
 // The exposure trace of a day: whom an index badge can have reached, when first, and through whom. It stands above the log part, and knows nothing of groups.
+
+#![tactic(auto)]
+
 mod answer;
 mod refusal;
 mod sweeping;

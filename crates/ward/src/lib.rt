@@ -1,5 +1,8 @@
 // The calls for C, and for any language that can call C: each function is thin over one call, and leaves what that call leaves. A slice is a
 // pointer and a length. `include/ward.h` has the prototypes.
+
+#![tactic(auto)]
+
 mod answers;
 
 ghost use Rattle.std.specs.Prelude.{◌≡◌};
