@@ -22,7 +22,7 @@ pub const CAPACITY: usize = SET_WORDS * WORD_BITS;
 pub const ROW_WORDS: usize = CAPACITY * SET_WORDS;
 
 // Some of the badges 0 to 127: badge u is in the set when bit u of the low word is 1, or bit u - 64 of the high word.
-#[derive(Drop)]
+#[derive(Clone, Copy)]
 pub struct BadgeSet {
     pub low: u64,
     pub high: u64,

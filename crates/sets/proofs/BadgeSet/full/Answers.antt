@@ -3,41 +3,27 @@ use mathlib.Core.Path.{◌≡◌}
 use mathlib.Core.List.{[], ◌∷◌}
 use Prim.Native.Nat.{ℕ, ◌-◌, min}
 use native.Mathlib.Omega.{arith}
-use borrow.Author.Rules.{rules}
 use Rattle.sets.specs.Sets.{set_of, full}
 use Rattle.sets.specs.Words.{word_bits, from_words}
 use Rattle.sets.specs.Members.{capacity}
 use Rattle.sets.proofs.WordByWord.{full_words, words-full}
-use Rattle.sets.proofs.BadgeSet.full.Statement.{statement}
-use Rattle.sets.proofs.BadgeSet.full.Tie as tie
+use Rattle.sets.proofs.BadgeSet.full.Goals as goal
 
 -- two words that are all badges below n of the first 64, and of the next 64
 both : (n l h : ℕ) → l ≡ full (min n word_bits) → h ≡ full (min (n - word_bits) word_bits) → from_words (l ∷ h ∷ []) ≡ full (min n capacity)
 unfolding full_words
 both n l h p q = rw (p, q) (words-full 2 n)
 
-full-word-requires : tie.Need-full-word-requires
-full-word-requires c κs = search rules
+pub returns-then-n-le-WORD_BITS : goal.returns-then-n-le-WORD_BITS
+unfolding full set_of
+returns-then-n-le-WORD_BITS c =
+    let n = c.args.n in
+    let e : min (n - word_bits) word_bits ≡ 0 = omega arith in
+    both n _ 0 c.full_word.ensures (rw e)
 
-returns : tie.Need-returns
+pub returns : goal.returns
 unfolding full set_of
 returns c =
-    let n = c.before.before.args.n in
-    let e : min (n - word_bits) word_bits ≡ 0 = omega arith in
-    both n _ 0 c.full-word.ensures (rw e)
-
-sub-full-word : tie.Need-overflow-sub-full-word
-sub-full-word c = search rules
-
-full-word-requires-2 : tie.Need-full-word-requires-2
-full-word-requires-2 c κs = search rules
-
-returns-2 : tie.Need-returns-2
-unfolding full set_of
-returns-2 c =
-    let n = c.before.before.args.n in
+    let n = c.args.n in
     let e : min n word_bits ≡ word_bits = omega arith in
-    both n _ _ (rw e) c.full-word2.ensures
-
-pub full-spec : {M : Type 1} → statement M
-full-spec = tie.close (tie.spec full-word-requires returns sub-full-word full-word-requires-2 returns-2)
+    both n _ _ (rw e) c.full_word-2.ensures

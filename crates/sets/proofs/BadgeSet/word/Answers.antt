@@ -8,31 +8,27 @@ use Rattle.sets.specs.declared.BadgeSet.{BadgeSet}
 use Rattle.sets.specs.Words.{word_bits, lower_words, to_words}
 use Rattle.sets.specs.Members.{members}
 use Rattle.sets.proofs.Pairs.{two-words-of}
-use Rattle.sets.proofs.BadgeSet.word.Statement.{statement}
-use Rattle.sets.proofs.BadgeSet.word.Tie as tie
+use Rattle.sets.proofs.BadgeSet.word.Goals as goal
 
 -- word i of the two
 its-word : (s : BadgeSet) (i x : ℕ) → s.low < 2 ^ word_bits → s.high < 2 ^ word_bits → x ≡ get_or (s.low ∷ s.high ∷ []) i 0
     → x ≡ get_or (to_words lower_words (members s)) i 0
 its-word s i x p q e = e ∙ sym (ap (λ (ws : List ℕ). get_or ws i 0) (two-words-of s.low s.high p q))
 
-returns : tie.Need-returns
+pub returns-then-i-eq0 : goal.returns-then-i-eq0
+returns-then-i-eq0 c =
+    let a = c.args in
+    let e : a.i ≡ 0 = c.if-i-eq0.true in
+    its-word a.self a.i _ (omega arith) (omega arith) (rw e)
+
+pub returns-then-i-eq1 : goal.returns-then-i-eq1
+returns-then-i-eq1 c =
+    let a = c.args in
+    let e : a.i ≡ 1 = c.if-i-eq1.true in
+    its-word a.self a.i _ (omega arith) (omega arith) (rw e)
+
+pub returns : goal.returns
 returns c =
-    let a = c.before.args in
-    let e : a.i ≡ 0 = c.if1.true in
-    its-word a.self a.i _ (omega arith) (omega arith) (rw e)
-
-returns-2 : tie.Need-returns-2
-returns-2 c =
-    let a = c.before.before.args in
-    let e : a.i ≡ 1 = c.if2.true in
-    its-word a.self a.i _ (omega arith) (omega arith) (rw e)
-
-returns-3 : tie.Need-returns-3
-returns-3 c =
-    let a = c.before.before.args in
-    let l : 2 ≤ a.i = omega (arith, c.before.if1.false, c.if2.false) in
+    let a = c.args in
+    let l : 2 ≤ a.i = omega (arith, c.if-i-eq0.false, c.if-i-eq1.false) in
     its-word a.self a.i 0 (omega arith) (omega arith) (sym (get_or-eq_default (a.self.low ∷ a.self.high ∷ []) 0 l))
-
-pub word-spec : {M : Type 1} → statement M
-word-spec = tie.close (tie.spec returns returns-2 returns-3)

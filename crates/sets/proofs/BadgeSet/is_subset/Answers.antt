@@ -6,22 +6,18 @@ use native.Mathlib.Omega.{arith}
 use lib.Bits.{bit_and}
 use borrow.Author.Tests.{eq-eqb, ne_eqb}
 use Rattle.sets.proofs.Pairs.{sub-two, sub_low, sub-high}
-use Rattle.sets.proofs.BadgeSet.is_subset.Statement.{statement}
-use Rattle.sets.proofs.BadgeSet.is_subset.Tie as tie
+use Rattle.sets.proofs.BadgeSet.is_subset.Goals as goal
+use Rattle.sets.proofs.BadgeSet.is_subset.Goals.{Else-self-other}
 
-returns : tie.Need-returns
+pub returns-then-self-other : goal.returns-then-self-other
+returns-then-self-other c =
+    let a = c.args in
+    sym (sub_low a.self.low a.self.high a.other.low a.other.high (omega arith) (omega arith) (omega arith) (omega arith) c.if-self-other.true)
+
+pub returns : goal.returns
 returns c =
-    let a = c.before.before.before.before.args in
-    sym (sub_low a.self.low a.self.high a.other.low a.other.high (omega arith) (omega arith) (omega arith) (omega arith) c.if1.true)
-
-returns-2 : tie.Need-returns-2
-returns-2 c =
-    let b = c.before.before.before in
-    let a = b.before.before.before.before.args in
-    let e : bit_and a.self.low a.other.low ≡ a.self.low = b.if1.false in
+    let a = c.args in
+    let e : bit_and a.self.low a.other.low ≡ a.self.low = c.if-self-other.false in
     by_cases (ℕ_discrete (bit_and a.self.high a.other.high) a.self.high)
     (λ f. eq-eqb _ _ f ∙ sym (sub-two a.self.low a.self.high a.other.low a.other.high (omega arith) (omega arith) (omega arith) (omega arith) e f))
     (λ f. ne_eqb _ _ f ∙ sym (sub-high a.self.low a.self.high a.other.low a.other.high (omega arith) (omega arith) (omega arith) (omega arith) f))
-
-pub is-subset-spec : {M : Type 1} → statement M
-is-subset-spec = tie.close (tie.spec returns returns-2)

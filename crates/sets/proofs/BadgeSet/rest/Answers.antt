@@ -3,14 +3,12 @@ use mathlib.Core.Path.{◌≡◌, sym, ap, ◌∙◌}
 use mathlib.Core.List.{List, [], ◌∷◌}
 use Prim.Native.Nat.{ℕ, ◌-◌, ◌^◌, ◌<◌}
 use native.Mathlib.Omega.{arith}
-use borrow.Author.Rules.{rules}
 use Rattle.sets.specs.Sets.{intersection, difference, only, smallest}
 use Rattle.sets.specs.Words.{word_bits, from_words}
 use Rattle.sets.specs.Members.{capacity}
 use Rattle.sets.proofs.FirstWord.{without_first, rest-later, rest-here, words-smallest, words-without-first}
 use Rattle.sets.proofs.Pairs.{two-words}
-use Rattle.sets.proofs.BadgeSet.rest.Statement.{statement}
-use Rattle.sets.proofs.BadgeSet.rest.Tie as tie
+use Rattle.sets.proofs.BadgeSet.rest.Goals as goal
 
 -- words that are those of a set but for the lowest bit of the first word that has one
 is-rest : (l h : ℕ) {ws : List ℕ} → l < 2 ^ word_bits → h < 2 ^ word_bits → ws ≡ without_first (l ∷ h ∷ [])
@@ -19,32 +17,23 @@ is-rest l h p q e =
     let w = two-words p q in
     ap from_words e ∙ words-without-first (l ∷ h ∷ []) w ∙ ap (λ (x : ℕ). difference (from_words (l ∷ h ∷ [])) (only x)) (sym (words-smallest (l ∷ h ∷ []) w))
 
-returns : tie.Need-returns
+pub returns-then-self-eq0-2 : goal.returns-then-self-eq0-2
 unfolding without_first
+returns-then-self-eq0-2 c =
+    let s = c.args.self in
+    is-rest s.low s.high (omega arith) (omega arith)
+    (sym (rest-later s.low (s.high ∷ []) c.if-self-eq0.true ∙ ap (λ (x : List ℕ). s.low ∷ x) (rest-later s.high [] c.if-self-eq0-2.true)))
+
+pub returns-then-self-eq0 : goal.returns-then-self-eq0
+unfolding intersection
+returns-then-self-eq0 c =
+    let s = c.args.self in
+    let z = c.if-self-eq0.true in
+    is-rest s.low s.high (omega arith) (omega arith)
+    (sym (rest-later s.low (s.high ∷ []) z ∙ ap (λ (x : List ℕ). s.low ∷ x) (rest-here s.high [] c.if-self-eq0-2.false) ∙ ap (λ (x : ℕ). x ∷ intersection s.high (s.high - 1) ∷ []) z))
+
+pub returns : goal.returns
+unfolding intersection
 returns c =
-    let s = c.before.before.before.before.args.self in
-    is-rest s.low s.high (omega arith) (omega arith)
-    (sym (rest-later s.low (s.high ∷ []) c.before.before.if1.true ∙ ap (λ (x : List ℕ). s.low ∷ x) (rest-later s.high [] c.if2.true)))
-
-sub-t4 : tie.Need-overflow-sub-t4
-sub-t4 c = search rules
-
-returns-2 : tie.Need-returns-2
-unfolding intersection
-returns-2 c =
-    let s = c.before.before.before.before.before.before.args.self in
-    let z = c.before.before.before.before.if1.true in
-    is-rest s.low s.high (omega arith) (omega arith)
-    (sym (rest-later s.low (s.high ∷ []) z ∙ ap (λ (x : List ℕ). s.low ∷ x) (rest-here s.high [] c.before.before.if2.false) ∙ ap (λ (x : ℕ). x ∷ intersection s.high (s.high - 1) ∷ []) z))
-
-sub-t6 : tie.Need-overflow-sub-t6
-sub-t6 c = search rules
-
-returns-3 : tie.Need-returns-3
-unfolding intersection
-returns-3 c =
-    let s = c.before.before.before.before.args.self in
-    is-rest s.low s.high (omega arith) (omega arith) (sym (rest-here s.low (s.high ∷ []) c.before.before.if1.false))
-
-pub rest-spec : {M : Type 1} → statement M
-rest-spec = tie.close (tie.spec returns sub-t4 returns-2 sub-t6 returns-3)
+    let s = c.args.self in
+    is-rest s.low s.high (omega arith) (omega arith) (sym (rest-here s.low (s.high ∷ []) c.if-self-eq0.false))

@@ -6,14 +6,10 @@ use native.Mathlib.Omega.{arith}
 use Rattle.sets.specs.Sets.{symmetric_difference}
 use Rattle.sets.proofs.WordByWord.{words-symmetric-difference}
 use Rattle.sets.proofs.Pairs.{two-words}
-use Rattle.sets.proofs.BadgeSet.symmetric_difference.Statement.{statement}
-use Rattle.sets.proofs.BadgeSet.symmetric_difference.Tie as tie
+use Rattle.sets.proofs.BadgeSet.symmetric_difference.Goals as goal
 
-returns : tie.Need-returns
+pub returns : goal.returns
 unfolding zip_with symmetric_difference
 returns c =
-    let a = c.before.before.before.before.args in
+    let a = c.args in
     sym (words-symmetric-difference (a.self.low ∷ a.self.high ∷ []) (a.other.low ∷ a.other.high ∷ []) refl (two-words (omega arith) (omega arith)) (two-words (omega arith) (omega arith)))
-
-pub symmetric-difference-spec : {M : Type 1} → statement M
-symmetric-difference-spec = tie.close (tie.spec returns)

@@ -6,14 +6,10 @@ use native.Mathlib.Omega.{arith}
 use Rattle.sets.specs.Sets.{intersection}
 use Rattle.sets.proofs.WordByWord.{words-intersection}
 use Rattle.sets.proofs.Pairs.{two-words}
-use Rattle.sets.proofs.BadgeSet.intersection.Statement.{statement}
-use Rattle.sets.proofs.BadgeSet.intersection.Tie as tie
+use Rattle.sets.proofs.BadgeSet.intersection.Goals as goal
 
-returns : tie.Need-returns
+pub returns : goal.returns
 unfolding zip_with intersection
 returns c =
-    let a = c.before.before.before.before.args in
+    let a = c.args in
     sym (words-intersection (a.self.low ∷ a.self.high ∷ []) (a.other.low ∷ a.other.high ∷ []) refl (two-words (omega arith) (omega arith)) (two-words (omega arith) (omega arith)))
-
-pub intersection-spec : {M : Type 1} → statement M
-intersection-spec = tie.close (tie.spec returns)
