@@ -2,9 +2,9 @@
 use reference::Verdict;
 
 // The answer of read.
-pub(crate) fn reads_as(got: log::Verdict, wanted: Verdict) -> bool {
+pub(crate) fn reads_as(got: logs::Verdict, wanted: Verdict) -> bool {
     match got {
-        log::Verdict::Accepted {
+        logs::Verdict::Accepted {
             badges,
             ticks,
             contacts,
@@ -14,17 +14,17 @@ pub(crate) fn reads_as(got: log::Verdict, wanted: Verdict) -> bool {
                 & (ticks == wanted.ticks)
                 & (contacts == wanted.contacts)
         }
-        log::Verdict::Refused(refusal) => {
+        logs::Verdict::Refused(refusal) => {
             (refusal.number() as usize == wanted.number) & (refusal.offset() == wanted.offset)
         }
     }
 }
 
 // The answer of a call of the log part that writes.
-pub(crate) fn writes_log(got: log::Written, wanted: Verdict, len: usize) -> bool {
+pub(crate) fn writes_log(got: logs::Written, wanted: Verdict, len: usize) -> bool {
     match got {
-        log::Written::Bytes(bytes) => (wanted.number == 0) & (bytes == len),
-        log::Written::Refused(refusal) => {
+        logs::Written::Bytes(bytes) => (wanted.number == 0) & (bytes == len),
+        logs::Written::Refused(refusal) => {
             (refusal.number() as usize == wanted.number) & (refusal.offset() == wanted.offset)
         }
     }

@@ -42,7 +42,7 @@ fn holds(buffer: &[u8], wanted: Bytes) -> bool {
 // Read.
 pub(crate) fn reads(log: &[u8]) -> bool {
     let mut words = lent_words();
-    let got = log::read(log, &mut words);
+    let got = logs::read(log, &mut words);
     let wanted = judge(log);
     reads_as(got, wanted) & hold(&words, log, wanted)
 }
@@ -51,7 +51,7 @@ pub(crate) fn reads(log: &[u8]) -> bool {
 pub(crate) fn tidies(log: &[u8]) -> bool {
     let mut words = lent_words();
     let mut buffer = lent_bytes();
-    let got = log::tidy(log, &mut words, &mut buffer);
+    let got = logs::tidy(log, &mut words, &mut buffer);
     let day = judge(log);
     let left: &[u64] = &words;
     let wanted = reference::tidy_log(left, day.badges, day.ticks);
@@ -83,7 +83,7 @@ pub(crate) fn lists(log: &[u8]) -> bool {
 // Write. The verdict on the log that words were read from goes with each call on them: it is no refusal.
 pub(crate) fn writes(words: &[u64], day: Verdict) -> bool {
     let mut buffer = lent_bytes();
-    let got = log::write(words, day.badges, day.ticks, &mut buffer);
+    let got = logs::write(words, day.badges, day.ticks, &mut buffer);
     let wanted = reference::tidy_log(words, day.badges, day.ticks);
     writes_log(got, day, wanted.len) & holds(&buffer, wanted)
 }

@@ -98,9 +98,9 @@ pub(crate) fn order_127() -> Tally {
 pub(crate) fn largest_day() -> Tally {
     let mut words = [0xffff_ffff_ffff_ffff; WIDE_WORDS];
     let log: &[u8] = b"BH\x80\x60ED\x00\x00\x00\x00";
-    let read = reads_as(log::read(log, &mut words), LARGEST);
+    let read = reads_as(logs::read(log, &mut words), LARGEST);
     let mut buffer = [FILLER; 128];
-    let written = writes_log(log::write(&words, 128, 96, &mut buffer), LARGEST, 10);
+    let written = writes_log(logs::write(&words, 128, 96, &mut buffer), LARGEST, 10);
     Tally::none()
         .with_case(read)
         .with_case(written & same(first_bytes(&buffer, 10), log))

@@ -35,7 +35,7 @@ fn draw_query(n: usize, state: u64) -> u64 {
 // A call on the words of a log's day, with a random span, query or number of parts.
 fn day_case(family: Family, log: &[u8], state: u64) -> bool {
     let mut words = cases::lent_words();
-    log::read(log, &mut words);
+    logs::read(log, &mut words);
     let words: &[u64] = &words;
     let day = judge(log);
     let first = draw_from(state, day.ticks);

@@ -16,9 +16,9 @@ use Rattle.days.specs.Days.{neighbours, adjacent, tick_sets, day_sets, day_words
 use Rattle.days.specs.Calls.{read_judged, read_of, check_of}
 use Rattle.series.specs.Series.{parts, judge_logs, badges_in, ticks_in, have_size, judge_series, common_size}
 use Rattle.receivers.specs.Joining.{sum, joinable, judge_join, heard_by, quorum, joined_day, join_judged, join_of}
-use Rattle.log.specs.Tidy.{run_start, run_ends, run_at, runs_of, row_runs, tidy_contacts, tidy_log}
-use Rattle.log.specs.Buffers.{deliver}
-use Rattle.log.specs.Calls.{write_judged, write_of, tidy_before9, tidy_of}
+use Rattle.logs.specs.Tidy.{run_start, run_ends, run_at, runs_of, row_runs, tidy_contacts, tidy_log}
+use Rattle.logs.specs.Buffers.{deliver}
+use Rattle.logs.specs.Calls.{write_judged, write_of, tidy_before9, tidy_of}
 use Rattle.chains.specs.Sweep.{overlap, spread, source_from, ticks_first, passing, newly, tick_after, source_after, trace_bytes}
 use Rattle.chains.specs.Judging.{is_start, start_judged, trace_judged}
 use Rattle.trace.specs.Calls.{trace_of}

@@ -7,7 +7,7 @@ use Rattle.records.specs.Verdicts.{Values}
 use Rattle.days.specs.Calls.{read_of}
 use Rattle.series.specs.Series.{Size}
 use Rattle.receivers.specs.Joining.{join_of}
-use Rattle.log.specs.Calls.{tidy_of, write_of}
+use Rattle.logs.specs.Calls.{tidy_of, write_of}
 use Rattle.trace.specs.Calls.{trace_of}
 use Rattle.thresholds.specs.declared.Thresholds.{Thresholds}
 use Rattle.spans.specs.Plans.{parts_from, parts_of}

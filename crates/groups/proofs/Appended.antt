@@ -8,8 +8,8 @@ use lib.ListN.{length, get_or, take, drop, length-append}
 use lib.Seq.{drop-drop}
 use Rattle.sets.specs.Bytes.{little_endian}
 use Rattle.sets.proofs.Bytes.{append-little-endian}
-use Rattle.log.specs.Buffers.{place}
-use Rattle.log.proofs.Delivering.{length-place, take-place, drop-place}
+use Rattle.logs.specs.Buffers.{place}
+use Rattle.logs.proofs.Delivering.{length-place, take-place, drop-place}
 use Rattle.spans.specs.SpanCores.{SpanCore}
 use Rattle.spans.specs.Encoding.{form_of, core_bytes, record_bytes, encode_core, encode_cores}
 use Rattle.spans.proofs.Forms.{marked}

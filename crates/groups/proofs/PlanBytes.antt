@@ -12,8 +12,8 @@ use Rattle.records.specs.Limits.{max_ticks}
 use Rattle.records.specs.Records.{encode}
 use Rattle.records.proofs.Records.{length-encode}
 use Rattle.records.proofs.WithinLimits.{limits_of}
-use Rattle.log.specs.Buffers.{place}
-use Rattle.log.proofs.Delivering.{take-place, drop-place}
+use Rattle.logs.specs.Buffers.{place}
+use Rattle.logs.proofs.Delivering.{take-place, drop-place}
 use Rattle.cuts.specs.Cuttings.{Cutting}
 use Rattle.cuts.specs.Sums.{table_score}
 use Rattle.spans.specs.Spans.{SpanOfDay}

@@ -8,8 +8,8 @@ use lib.ListN.{length, take, drop}
 use Rattle.sets.specs.Sets.{is_sub, full}
 use Rattle.records.specs.Limits.{max_ticks}
 use Rattle.records.specs.Outcomes.{Outcome, refused, success}
-use Rattle.log.specs.Buffers.{deliver}
-use Rattle.log.proofs.Delivering.{deliver-short, deliver-fits}
+use Rattle.logs.specs.Buffers.{deliver}
+use Rattle.logs.proofs.Delivering.{deliver-short, deliver-fits}
 use Rattle.cuts.specs.Cuttings.{Cutting}
 use Rattle.cuts.specs.Sums.{best_ends, table_score, ends_of}
 use Rattle.cuts.proofs.Sums.{best-ends, ends_same}

@@ -10,8 +10,8 @@ use Rattle.sets.proofs.Sets.{sub_trans, is-sub-in, is-sub-of}
 use Rattle.records.specs.Outcomes.{Outcome, success, and_then}
 use Rattle.records.proofs.Outcomes.{success-same, refuse-passed, then-passed}
 use Rattle.records.proofs.WithinLimits.{limits_of}
-use Rattle.log.specs.Buffers.{deliver}
-use Rattle.log.proofs.Delivering.{deliver-passed, deliver-short, deliver-fits, deliver-success}
+use Rattle.logs.specs.Buffers.{deliver}
+use Rattle.logs.proofs.Delivering.{deliver-passed, deliver-short, deliver-fits, deliver-success}
 use Rattle.spans.specs.Plans.{parts_of, is_reviewed_query, is_parts}
 use Rattle.spans.specs.Encoding.{plan_bytes, plan_records}
 use Rattle.spans.specs.PlanStatement.{PlanStatement, PlanAsked}

@@ -17,8 +17,8 @@ use Rattle.records.specs.Records.{encode}
 use Rattle.records.proofs.Records.{length-encode}
 use Rattle.records.proofs.WithinLimits.{limits_of}
 use Rattle.days.specs.Days.{LentDay}
-use Rattle.log.specs.Buffers.{place}
-use Rattle.log.proofs.Delivering.{length-place, take-place, drop-place, deliver-fits, deliver-short}
+use Rattle.logs.specs.Buffers.{place}
+use Rattle.logs.proofs.Delivering.{length-place, take-place, drop-place, deliver-fits, deliver-short}
 use Rattle.cores.specs.Rows.{graph}
 use Rattle.circles.specs.Circles.{at_least, circles as circles'}
 use Rattle.circles.proofs.CircleLists.{circles-few}

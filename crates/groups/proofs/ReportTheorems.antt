@@ -8,8 +8,8 @@ use Rattle.sets.specs.Bools.{◌and◌}
 use Rattle.records.specs.Outcomes.{Outcome, refused, success, and_then}
 use Rattle.records.proofs.Outcomes.{success-same, refuse-passed, then-passed}
 use Rattle.days.specs.Days.{LentDay}
-use Rattle.log.specs.Buffers.{deliver}
-use Rattle.log.proofs.Delivering.{deliver-refused, deliver-passed, deliver-short, deliver-fits, deliver-success}
+use Rattle.logs.specs.Buffers.{deliver}
+use Rattle.logs.proofs.Delivering.{deliver-refused, deliver-passed, deliver-short, deliver-fits, deliver-success}
 use Rattle.thresholds.specs.declared.Thresholds.{Thresholds}
 use Rattle.thresholds.specs.Ranges.{plain, in_range}
 use Rattle.spans.specs.Reviews.{Review}

@@ -5,7 +5,7 @@ use Rattle.sets.specs.Members.{members}
 use Rattle.sets.specs.Words.{set_words, words_of}
 use Rattle.records.specs.Outcomes.{Outcome, success}
 use Rattle.days.specs.Days.{LentDay}
-use Rattle.log.specs.Buffers.{deliver}
+use Rattle.logs.specs.Buffers.{deliver}
 use Rattle.circles.specs.Circles.{at_least}
 use Rattle.thresholds.specs.declared.Thresholds.{Thresholds}
 use Rattle.spans.specs.Spans.{SpanOfDay, span_words}

@@ -1,7 +1,7 @@
 -- What the public calls answer and leave in the slices that were lent, for every input, by the order of documents 01 and 02.
 use Rattle.std.specs.Prelude.{List, ℕ}
 use Rattle.records.specs.Outcomes.{and_then}
-use Rattle.log.specs.Buffers.{Delivered, deliver}
+use Rattle.logs.specs.Buffers.{Delivered, deliver}
 use Rattle.thresholds.specs.declared.Thresholds.{Thresholds}
 use Rattle.spans.specs.Judging.{review_of, span_judged, report_judged, plan_judged}
 

@@ -2,7 +2,7 @@
 use Rattle.std.specs.Prelude.{false, List, ◌++◌, ◌≡◌, ℕ, ◌≤◌, ◌<◌, length, take, drop}
 use Rattle.records.specs.Outcomes.{Outcome, refused, success}
 use Rattle.days.specs.Days.{LentDay}
-use Rattle.log.specs.Buffers.{Delivered}
+use Rattle.logs.specs.Buffers.{Delivered}
 use Rattle.thresholds.specs.declared.Thresholds.{Thresholds}
 use Rattle.spans.specs.Reviews.{Review}
 use Rattle.spans.specs.SpanCores.{SpanCore}

@@ -1,7 +1,7 @@
 -- What the plan promises, over any call that takes n, T, words, badges under review, a query, a number of parts and a buffer.
 use Rattle.std.specs.Prelude.{List, ◌++◌, ◌≡◌, ℕ, ◌≤◌, ◌<◌, length, take, drop}
 use Rattle.records.specs.Outcomes.{Outcome, refused, success}
-use Rattle.log.specs.Buffers.{Delivered}
+use Rattle.logs.specs.Buffers.{Delivered}
 use Rattle.spans.specs.SpanCores.{SpanCore}
 use Rattle.spans.specs.Encoding.{plan_bytes, plan_records}
 use Rattle.spans.specs.PlanStatement.{PlanStatement, PlanAsked}

@@ -1,6 +1,6 @@
 // What a call that fills a result buffer answers.
 ghost use Rattle.std.specs.Prelude.{◌≡◌};
-ghost use Rattle.log.specs.Calls as log;
+ghost use Rattle.logs.specs.Calls as log;
 ghost use Rattle.groups.specs.Refusals.{written_outcome};
 
 use crate::refusal::Refusal;
@@ -13,11 +13,11 @@ pub enum Written {
 }
 
 // What came of the log part's delivery.
-pub(crate) fn delivered(written: log::Written) -> Written
+pub(crate) fn delivered(written: logs::Written) -> Written
     ensures { written_outcome result ≡ log.written_outcome written }
 {
     match written {
-        log::Written::Bytes(count) => Written::Bytes(count),
-        log::Written::Refused(refusal) => Written::Refused(Refusal::Log(refusal)),
+        logs::Written::Bytes(count) => Written::Bytes(count),
+        logs::Written::Refused(refusal) => Written::Refused(Refusal::Log(refusal)),
     }
 }

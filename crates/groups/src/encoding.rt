@@ -1,11 +1,11 @@
 // Records of reports and plans, put into memory one after the other.
 ghost use Rattle.std.specs.Prelude.{◌≡◌, ◌∷◌, [], ◌+◌, ◌*◌, ◌≤◌, length};
 ghost use Rattle.sets.specs.Bytes.{little_endian};
-ghost use Rattle.log.specs.Buffers.{place};
+ghost use Rattle.logs.specs.Buffers.{place};
 ghost use Rattle.spans.specs.Encoding.{core_bytes, encode_core};
 ghost use Rattle.groups.specs.Appending.{core_of, AppendsCores};
 
-use log::put;
+use logs::put;
 use sets::BadgeSet;
 
 // What a record of a report or a plan shows: the order of a core or the score of a part, its span, and its members.

@@ -2,7 +2,7 @@
 ghost use Rattle.std.specs.Prelude.{◌≡◌};
 ghost use Rattle.sets.specs.Members.{members};
 ghost use Rattle.days.specs.Days.{LentDay};
-ghost use Rattle.log.specs.Buffers.{deliver};
+ghost use Rattle.logs.specs.Buffers.{deliver};
 ghost use Rattle.spans.specs.Reviews.{Review};
 ghost use Rattle.spans.specs.Judging.{span_judged};
 ghost use Rattle.groups.specs.Refusals.{written_outcome};
@@ -42,7 +42,7 @@ fn number_span(
     };
     let rows = span_rows(words, day, Span { first, last });
     let numbers = cores::core_numbers(rows, review);
-    delivered(log::deliver(&numbers[..badges], buffer))
+    delivered(logs::deliver(&numbers[..badges], buffer))
 }
 
 // Puts the core number of each badge on the span from tick first to tick last, among the badges under review, into the buffer that is lent, one byte a

@@ -2,7 +2,7 @@
 ghost use Rattle.std.specs.Prelude.{◌≡◌, ◌∷◌, [], ◌+◌, ◌*◌, ◌≤◌, ◌<◌, length};
 ghost use Rattle.sets.specs.Members.{members};
 ghost use Rattle.days.specs.Days.{LentDay};
-ghost use Rattle.log.specs.Buffers.{deliver};
+ghost use Rattle.logs.specs.Buffers.{deliver};
 ghost use Rattle.spans.specs.Spans.{SpanOfDay};
 ghost use Rattle.spans.specs.Reviews.{Review};
 ghost use Rattle.spans.specs.Plans.{score_on, members_on, part_on};
@@ -22,7 +22,7 @@ use crate::refusal::Refusal;
 use crate::reviewing::{Judged, judge_review};
 use crate::rows::span_rows;
 use crate::scoring::fill_scores;
-use log::{Record, put_record};
+use logs::{Record, put_record};
 use sets::{BadgeSet, widen};
 
 // The members shown of a part of a score: those of the core of this order, which contains the query, and at score 0 all badges under review. The order
@@ -144,7 +144,7 @@ fn plan_day(
     let record = 5 + set_bytes(badges);
     let size = 6 + record + record * parts;
     if buffer.len() < size {
-        return Written::Refused(Refusal::Log(log::Refusal::BufferTooShort));
+        return Written::Refused(Refusal::Log(logs::Refusal::BufferTooShort));
     }
     let mut scores = [0u8; 9216];
     let day = Day {

@@ -5,7 +5,7 @@ ghost use Rattle.groups.specs.Refusals.{number_of, offset_of};
 #[derive(Drop)]
 pub enum Refusal {
     // One that the log part gives: 8 to 11 by the calls here, and 1 to 8 by the listing, which reads a log.
-    Log(log::Refusal),
+    Log(logs::Refusal),
     // 12: a span with first after last, or last of T or more.
     InvalidSpan,
     // 13: the query has a badge of n or more.

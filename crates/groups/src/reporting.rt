@@ -2,7 +2,7 @@
 ghost use Rattle.std.specs.Prelude.{◌≡◌, ◌≤◌};
 ghost use Rattle.sets.specs.Members.{members};
 ghost use Rattle.days.specs.Days.{LentDay};
-ghost use Rattle.log.specs.Buffers.{deliver};
+ghost use Rattle.logs.specs.Buffers.{deliver};
 ghost use Rattle.spans.specs.Reviews.{Review};
 ghost use Rattle.spans.specs.Judging.{report_judged};
 ghost use Rattle.groups.specs.Refusals.{written_outcome};
@@ -32,7 +32,7 @@ fn report_groups(words: &[u64], day: Day, least: Thresholds, buffer: &mut [u8]) 
     let tally = find_cores(words, day, least, &mut packs, &mut memory);
     let size = 10 + (5 + set_bytes(day.badges)) * tally.records;
     if buffer.len() < size {
-        return Written::Refused(Refusal::Log(log::Refusal::BufferTooShort));
+        return Written::Refused(Refusal::Log(logs::Refusal::BufferTooShort));
     }
     write_report(words, day, least, &packs, &memory, tally.cores, buffer);
     Written::Bytes(size)

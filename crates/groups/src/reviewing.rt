@@ -8,7 +8,7 @@ ghost use Rattle.spans.specs.Judging.{review_of};
 ghost use Rattle.groups.specs.Refusals.{judged_outcome};
 
 use crate::refusal::Refusal;
-use log::{Checked, check_words};
+use logs::{Checked, check_words};
 use sets::BadgeSet;
 
 // A day and a review of it, or a refusal.

@@ -10,7 +10,7 @@ use crate::encoding::append_record;
 use crate::form::{Form, form_of};
 use crate::keeping::{Kept, kept_core};
 use crate::rows::{first_rows, follow};
-use log::{Record, put, put_record};
+use logs::{Record, put, put_record};
 use sets::{ROW_WORDS, widen};
 use thresholds::Thresholds;
 

@@ -14,7 +14,7 @@ use Rattle.records.specs.Records.{fields_of, encode}
 use Rattle.records.specs.Outcomes.{success}
 use Rattle.days.specs.Days.{LentDay}
 use Rattle.days.proofs.Scan.{day-of}
-use Rattle.log.specs.Buffers.{Delivered, deliver}
+use Rattle.logs.specs.Buffers.{Delivered, deliver}
 use Rattle.circles.proofs.CircleLists.{circles-within, circles-just-one}
 use Rattle.thresholds.specs.declared.Thresholds.{Thresholds}
 use Rattle.thresholds.specs.Ranges.{plain, least_of, in_range}

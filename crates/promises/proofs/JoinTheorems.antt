@@ -30,8 +30,8 @@ use Rattle.series.specs.Series.{parts, judge_logs, badges_in, ticks_in, Sized, A
 use Rattle.days.proofs.Days.{day-length, day-fits, neighbours-append, in-day, of-day, relation-day, day-head}
 use Rattle.days.proofs.Checks.{check-day}
 use Rattle.series.proofs.SeriesJudged.{size-of, size-in, first-sized, records-count, parts-count, each-accepted, Passed, series-passed, series-refused, series-different, series-little, series-few, series-success}
-use Rattle.log.specs.Tidy.{tidy_contacts}
-use Rattle.log.specs.Buffers.{Delivered}
+use Rattle.logs.specs.Tidy.{tidy_contacts}
+use Rattle.logs.specs.Buffers.{Delivered}
 use Rattle.thresholds.specs.declared.Thresholds.{Thresholds}
 use Rattle.thresholds.specs.Ranges.{in_range}
 use Rattle.trace.specs.Tracing.{Traces}

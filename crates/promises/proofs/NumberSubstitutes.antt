@@ -7,7 +7,7 @@ use lib.ListN.{length, get_or, replicate, drop}
 use Rattle.sets.specs.Sets.{size, full}
 use Rattle.sets.specs.Tables.{tabulate}
 use Rattle.records.specs.Outcomes.{Outcome}
-use Rattle.log.specs.Buffers.{Delivered}
+use Rattle.logs.specs.Buffers.{Delivered}
 use Rattle.spans.specs.Spans.{SpanOfDay, span_neighbours}
 use Rattle.spans.specs.Reviews.{Review}
 use Rattle.spans.proofs.Reviews.{all-reviewed}

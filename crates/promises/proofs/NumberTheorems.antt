@@ -11,8 +11,8 @@ use Rattle.sets.specs.Sets.{In, has}
 use Rattle.sets.proofs.Sets.{in-test, out-test, of-full}
 use Rattle.sets.proofs.Tables.{tabulate-length, tabulate-at}
 use Rattle.records.specs.Outcomes.{Outcome, refused, success}
-use Rattle.log.specs.Buffers.{deliver}
-use Rattle.log.proofs.Delivering.{deliver-passed, deliver-short, deliver-fits}
+use Rattle.logs.specs.Buffers.{deliver}
+use Rattle.logs.proofs.Delivering.{deliver-passed, deliver-short, deliver-fits}
 use Rattle.cores.specs.Orders.{core_number}
 use Rattle.cores.proofs.Cores.{core-sub}
 use Rattle.cores.proofs.Orders.{member-pos, number_of, number-by-sets, le-by-orders}

@@ -10,7 +10,7 @@ use Rattle.sets.proofs.Sets.{is-sub-of}
 use Rattle.records.specs.Outcomes.{success}
 use Rattle.days.specs.Days.{LentDay}
 use Rattle.days.proofs.Scan.{day-of}
-use Rattle.log.specs.Buffers.{Delivered}
+use Rattle.logs.specs.Buffers.{Delivered}
 use Rattle.cuts.specs.Cuttings.{total, IsBest, ComesBefore}
 use Rattle.cuts.specs.Sums.{best_ends}
 use Rattle.cuts.proofs.Cuttings.{one, more, of-cuts}

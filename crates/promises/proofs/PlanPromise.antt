@@ -10,8 +10,8 @@ use lib.ListN.{length, take}
 use Rattle.sets.specs.Words.{word_bits}
 use Rattle.records.specs.Outcomes.{success}
 use Rattle.records.proofs.Outcomes.{success-same}
-use Rattle.log.specs.Buffers.{Delivered, deliver}
-use Rattle.log.proofs.Delivering.{deliver-short, deliver-fits, deliver-success}
+use Rattle.logs.specs.Buffers.{Delivered, deliver}
+use Rattle.logs.proofs.Delivering.{deliver-short, deliver-fits, deliver-success}
 use Rattle.cuts.specs.Cuttings.{IsFirstBest}
 use Rattle.cuts.specs.Sums.{best_ends}
 use Rattle.cuts.proofs.FirstCuttings.{neither-before}

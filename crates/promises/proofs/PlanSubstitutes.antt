@@ -15,7 +15,7 @@ use Rattle.records.specs.Records.{encode}
 use Rattle.records.specs.Outcomes.{success}
 use Rattle.days.specs.Days.{LentDay}
 use Rattle.days.proofs.Scan.{day-of}
-use Rattle.log.specs.Buffers.{Delivered}
+use Rattle.logs.specs.Buffers.{Delivered}
 use Rattle.spans.specs.Spans.{SpanOfDay}
 use Rattle.spans.specs.Contacts.{fellows}
 use Rattle.spans.specs.SpanCores.{SpanCore, Mem}

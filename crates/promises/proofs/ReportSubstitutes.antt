@@ -18,8 +18,8 @@ use Rattle.records.specs.Outcomes.{refused, success}
 use Rattle.records.proofs.Records.{length-encode}
 use Rattle.records.proofs.Outcomes.{refused-success, success-same}
 use Rattle.days.specs.Days.{LentDay}
-use Rattle.log.specs.Buffers.{Delivered, deliver}
-use Rattle.log.proofs.Delivering.{deliver-fits}
+use Rattle.logs.specs.Buffers.{Delivered, deliver}
+use Rattle.logs.proofs.Delivering.{deliver-fits}
 use Rattle.thresholds.specs.declared.Thresholds.{Thresholds}
 use Rattle.spans.specs.SpanCores.{SpanCore, Mem}
 use Rattle.thresholds.specs.Ranges.{plain}

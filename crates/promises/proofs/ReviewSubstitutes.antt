@@ -9,7 +9,7 @@ use lib.ListN.{get_or, take, replicate, length-replicate}
 use Rattle.sets.specs.Sets.{In, Sub, intersection, full}
 use Rattle.sets.proofs.Sets.{in-test, out-test, is-sub-of}
 use Rattle.records.specs.Outcomes.{success}
-use Rattle.log.specs.Buffers.{Delivered}
+use Rattle.logs.specs.Buffers.{Delivered}
 use Rattle.thresholds.specs.declared.Thresholds.{Thresholds}
 use Rattle.thresholds.specs.Ranges.{plain}
 use Rattle.spans.specs.Reviews.{Review}

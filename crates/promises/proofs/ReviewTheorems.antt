@@ -14,8 +14,8 @@ use Rattle.sets.proofs.Size.{size_none}
 use Rattle.records.specs.Outcomes.{Outcome, success, refuse_if, and_then}
 use Rattle.days.specs.Days.{LentDay, neighbours, adjacent}
 use Rattle.days.proofs.Days.{day-length, in-day, of-day, relation-day}
-use Rattle.log.specs.Buffers.{deliver}
-use Rattle.log.proofs.Delivering.{deliver-passed}
+use Rattle.logs.specs.Buffers.{deliver}
+use Rattle.logs.proofs.Delivering.{deliver-passed}
 use Rattle.cores.specs.Graphs.{degree, Cohesive}
 use Rattle.cores.specs.Cores.{core}
 use Rattle.cores.proofs.Degrees.{FewerPairs, degree-mono}

@@ -13,7 +13,7 @@ use Rattle.records.specs.Outcomes.{refuse_if, and_then}
 use Rattle.days.specs.Days.{LentDay, neighbours, adjacent, is_tick, is_day}
 use Rattle.days.specs.Calls.{check_of}
 use Rattle.days.proofs.Scan.{day-of}
-use Rattle.log.specs.Buffers.{deliver}
+use Rattle.logs.specs.Buffers.{deliver}
 use Rattle.cores.specs.Graphs.{degree}
 use Rattle.cores.specs.Cores.{strip, strips, core}
 use Rattle.cores.specs.Orders.{largest, core_number, contains, score}

@@ -10,7 +10,7 @@ use Rattle.sets.specs.Sets.{full}
 use Rattle.sets.specs.Tables.{concat_below, keep_if}
 use Rattle.sets.proofs.Sets.{sub_refl}
 use Rattle.sets.proofs.Bools.{clash, same_test}
-use Rattle.log.specs.Buffers.{Delivered}
+use Rattle.logs.specs.Buffers.{Delivered}
 use Rattle.thresholds.specs.declared.Thresholds.{Thresholds}
 use Rattle.spans.specs.Spans.{is_span}
 use Rattle.spans.specs.SpanCores.{SpanCore, Mem, core_on, has_core}

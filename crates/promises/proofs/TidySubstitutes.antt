@@ -27,10 +27,10 @@ use Rattle.records.proofs.Outcomes.{refused-success, success-same}
 use Rattle.records.proofs.Numbers.{judge-number}
 use Rattle.days.specs.Days.{neighbours}
 use Rattle.days.specs.Calls.{Read}
-use Rattle.log.specs.Tidy.{run_start, run_ends, run_at, runs_of, row_runs, tidy_contacts, tidy_log}
-use Rattle.log.specs.Calls.{Tidied}
-use Rattle.log.proofs.TidyForm.{tidy-unique}
-use Rattle.log.proofs.TidyCount.{log-runs}
+use Rattle.logs.specs.Tidy.{run_start, run_ends, run_at, runs_of, row_runs, tidy_contacts, tidy_log}
+use Rattle.logs.specs.Calls.{Tidied}
+use Rattle.logs.proofs.TidyForm.{tidy-unique}
+use Rattle.logs.proofs.TidyCount.{log-runs}
 use Rattle.promises.specs.Tidying.{SameMeaning, HasTidied, FoundShort, TidyRefusal, by-log, by_8, by-9, Tidies}
 use Rattle.promises.proofs.SmallLogs.{meeting, never, once, twice, bytes_of, never-log, once-log, twice-log, two, met}
 

@@ -22,13 +22,13 @@ use Rattle.days.specs.Days.{day_words}
 use Rattle.days.specs.Calls.{Read, read_of}
 use Rattle.days.proofs.Days.{day-same}
 use Rattle.days.proofs.ReadCall.{Case, log-refused, words-few, words-enough, case-of}
-use Rattle.log.specs.Tidy.{tidy_contacts, tidy_log}
-use Rattle.log.specs.Buffers.{Delivered, deliver}
-use Rattle.log.specs.Calls.{tidy_before9, Tidied, tidy_of}
-use Rattle.log.proofs.TidyForm.{tidy-valid, tidy-met-in, tidy-met-of}
-use Rattle.log.proofs.TidyCount.{log-runs, tidy-count}
-use Rattle.log.proofs.Delivering.{deliver-short, deliver-fits}
-use Rattle.log.proofs.TidyCall.{log-same, before9-refused, before9-few, before9-enough, tidy-delivers}
+use Rattle.logs.specs.Tidy.{tidy_contacts, tidy_log}
+use Rattle.logs.specs.Buffers.{Delivered, deliver}
+use Rattle.logs.specs.Calls.{tidy_before9, Tidied, tidy_of}
+use Rattle.logs.proofs.TidyForm.{tidy-valid, tidy-met-in, tidy-met-of}
+use Rattle.logs.proofs.TidyCount.{log-runs, tidy-count}
+use Rattle.logs.proofs.Delivering.{deliver-short, deliver-fits}
+use Rattle.logs.proofs.TidyCall.{log-same, before9-refused, before9-few, before9-enough, tidy-delivers}
 use Rattle.promises.specs.Reading.{HoldsDay}
 use Rattle.promises.specs.Tidying.{SameMeaning, HasTidied, FoundShort, Recovers, IsTidied, TidyRefusal, by-log, by_8, by-9, Tidies, tidied_judged, tidied_of}
 use Rattle.promises.proofs.ReadTheorems.{read_log, reads}

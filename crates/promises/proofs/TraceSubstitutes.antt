@@ -20,7 +20,7 @@ use Rattle.records.specs.Outcomes.{success}
 use Rattle.records.proofs.WithinLimits.{limits_of}
 use Rattle.days.specs.Days.{neighbours, is_tick, is_day}
 use Rattle.days.proofs.Scan.{day-of}
-use Rattle.log.specs.Buffers.{Delivered}
+use Rattle.logs.specs.Buffers.{Delivered}
 use Rattle.chains.specs.Chains.{Contact, Chain}
 use Rattle.chains.specs.Traces.{never, tick_in, source_in, Other, PassesOn, as-reached, IsTrace}
 use Rattle.chains.specs.Sweep.{overlap, spread, source_from, ticks_first, passing, newly, tick_after, source_after, trace_bytes}

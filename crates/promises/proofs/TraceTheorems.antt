@@ -20,7 +20,7 @@ use Rattle.days.specs.Days.{LentDay}
 use Rattle.days.specs.Calls.{Read, check_of}
 use Rattle.days.proofs.Days.{neighbours-append}
 use Rattle.days.proofs.Checks.{check-day, check-passed, check-rest}
-use Rattle.log.specs.Buffers.{Delivered}
+use Rattle.logs.specs.Buffers.{Delivered}
 use Rattle.chains.specs.Chains.{Contact, Chain}
 use Rattle.chains.specs.Traces.{tick_in, IsTrace}
 use Rattle.chains.specs.Judging.{StartOfDay}

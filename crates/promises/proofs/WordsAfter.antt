@@ -14,8 +14,8 @@ use Rattle.sets.proofs.Bools.{and_left, and_right}
 use Rattle.sets.proofs.Sets.{sub-lt, full-lt}
 use Rattle.records.specs.Limits.{words_for}
 use Rattle.records.specs.Outcomes.{Outcome, refused, success, refuse_if, and_then}
-use Rattle.log.specs.Buffers.{deliver}
-use Rattle.log.proofs.Delivering.{deliver-refused}
+use Rattle.logs.specs.Buffers.{deliver}
+use Rattle.logs.proofs.Delivering.{deliver-refused}
 use Rattle.records.proofs.WithinLimits.{limits_of}
 use Rattle.cores.proofs.Degrees.{FewerPairs}
 use Rattle.cores.proofs.Cores.{core-same}

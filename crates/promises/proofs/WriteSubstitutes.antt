@@ -17,8 +17,8 @@ use Rattle.records.specs.Logs.{log_records}
 use Rattle.records.proofs.Outcomes.{refused-success, success-same}
 use Rattle.days.specs.Days.{LentDay}
 use Rattle.days.specs.Calls.{Read}
-use Rattle.log.specs.Tidy.{run_start, run_ends, run_at, runs_of, row_runs, tidy_contacts}
-use Rattle.log.specs.Buffers.{Delivered}
+use Rattle.logs.specs.Tidy.{run_start, run_ends, run_at, runs_of, row_runs, tidy_contacts}
+use Rattle.logs.specs.Buffers.{Delivered}
 use Rattle.promises.specs.WrittenDays.{HasRuns, log_bytes, Writes}
 use Rattle.promises.specs.D1.{d1_words}
 use Rattle.promises.proofs.SmallDays.{computing, still, d1-lent, still-lent}

@@ -26,13 +26,13 @@ use Rattle.days.specs.Calls.{read_of, check_of}
 use Rattle.days.proofs.Days.{neighbours-take, day-by}
 use Rattle.days.proofs.Checks.{check-day}
 use Rattle.days.proofs.ReadCall.{left}
-use Rattle.log.specs.Tidy.{IsTidy, tidy_contacts, tidy_log}
-use Rattle.log.specs.Buffers.{deliver}
-use Rattle.log.specs.Calls.{write_judged, write_of}
-use Rattle.log.proofs.TidyForm.{tidy-form, tidy-same, tidy-unique, tidy-meet, tidy-valid, tidy-met-in, tidy-met-of}
-use Rattle.log.proofs.Delivering.{deliver-rest, deliver-short, deliver-fits}
-use Rattle.log.proofs.TidyCall as log
-use Rattle.log.proofs.TidyCall.{adjacent-append, write-few}
+use Rattle.logs.specs.Tidy.{IsTidy, tidy_contacts, tidy_log}
+use Rattle.logs.specs.Buffers.{deliver}
+use Rattle.logs.specs.Calls.{write_judged, write_of}
+use Rattle.logs.proofs.TidyForm.{tidy-form, tidy-same, tidy-unique, tidy-meet, tidy-valid, tidy-met-in, tidy-met-of}
+use Rattle.logs.proofs.Delivering.{deliver-rest, deliver-short, deliver-fits}
+use Rattle.logs.proofs.TidyCall as log
+use Rattle.logs.proofs.TidyCall.{adjacent-append, write-few}
 use Rattle.promises.specs.WrittenDays.{HasRuns, log_bytes, Writes}
 use Rattle.promises.proofs.ReadTheorems.{read_log}
 

@@ -5,7 +5,7 @@ use Rattle.sets.specs.Sets.{has, full}
 use Rattle.records.specs.Outcomes.{Outcome, success, refuse_if, and_then}
 use Rattle.days.specs.Days.{adjacent, day_words}
 use Rattle.days.specs.Calls.{check_of}
-use Rattle.log.specs.Buffers.{Delivered, deliver}
+use Rattle.logs.specs.Buffers.{Delivered, deliver}
 use Rattle.thresholds.specs.declared.Thresholds.{Thresholds}
 use Rattle.spans.specs.SpanCores.{SpanCore}
 use Rattle.spans.specs.Plans.{parts_of, is_query, is_parts}

@@ -8,8 +8,8 @@ use Rattle.records.specs.Judging.{judge}
 use Rattle.records.specs.Meaning.{badges_of, ticks_of, in_contact}
 use Rattle.records.specs.Logs.{IsLog, Met}
 use Rattle.days.specs.Calls.{Read}
-use Rattle.log.specs.Tidy.{IsTidy, tidy_log}
-use Rattle.log.specs.Calls.{Tidied}
+use Rattle.logs.specs.Tidy.{IsTidy, tidy_log}
+use Rattle.logs.specs.Calls.{Tidied}
 use Rattle.promises.specs.Reading.{HoldsDay}
 
 -- "A log means its badge count, its tick count and which pairs were in contact in which ticks."

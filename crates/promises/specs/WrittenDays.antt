@@ -9,8 +9,8 @@ use Rattle.records.specs.Outcomes.{refused, success}
 use Rattle.records.specs.Logs.{log_records}
 use Rattle.days.specs.Days.{neighbours, LentDay}
 use Rattle.days.specs.Calls.{Read}
-use Rattle.log.specs.Tidy.{IsTidy}
-use Rattle.log.specs.Buffers.{Delivered}
+use Rattle.logs.specs.Tidy.{IsTidy}
+use Rattle.logs.specs.Buffers.{Delivered}
 
 -- words of which the first 2×n×T are a day, and the unbroken runs of its pairs, in order
 pub record HasRuns (n T : ℕ) (ws : List ℕ) (runs : List Record) : Type 0 where

@@ -13,8 +13,8 @@ use Rattle.sets.specs.Ascii.{ascii}
 use Rattle.sets.specs.Sets.{has}
 use Rattle.sets.specs.Members.{capacity}
 use Rattle.sets.specs.Tables.{concat_below, keep_if}
-use Rattle.log.specs.Buffers.{place}
-use Rattle.log.proofs.Delivering.{take-place, length-place}
+use Rattle.logs.specs.Buffers.{place}
+use Rattle.logs.proofs.Delivering.{take-place, length-place}
 use Rattle.text.specs.Decimal.{decimal}
 use Rattle.text.specs.Listing.{field, member_list}
 use Rattle.text.specs.Making.{line_room, digit_room, member_room, Spells, Appends, Makes}

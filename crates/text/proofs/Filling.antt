@@ -9,8 +9,8 @@ use lib.Dec.{leb}
 use lib.ListN.{length, get_or, take, drop, length-append, take-append-drop, drop_of_length-le}
 use lib.Seq.{length-take-le, drop-cons, drop-drop}
 use borrow.Author.Tests.{le-leb, lt-leb, leb-true, leb-false}
-use Rattle.log.specs.Buffers.{place}
-use Rattle.log.proofs.Delivering.{take-place, length-place, drop-place}
+use Rattle.logs.specs.Buffers.{place}
+use Rattle.logs.proofs.Delivering.{take-place, length-place, drop-place}
 use Rattle.text.specs.Listing.{joined}
 use Rattle.text.specs.Pieces.{lines_in, bytes_in, piece_of}
 use Rattle.text.specs.Making.{Makes}

@@ -31,7 +31,7 @@ use Rattle.days.specs.Days.{day_of, LentDay}
 use Rattle.days.specs.Calls.{Read}
 use Rattle.days.proofs.Days.{day-length}
 use Rattle.days.proofs.ReadCall.{read-refused, read-few, read-success}
-use Rattle.log.specs.Buffers.{Delivered}
+use Rattle.logs.specs.Buffers.{Delivered}
 use Rattle.thresholds.specs.Ranges.{plain, in_range}
 use Rattle.spans.specs.SpanCores.{SpanCore, Mem}
 use Rattle.spans.specs.Encoding.{form_of, record_bytes, encode_cores, report_bytes}

@@ -8,7 +8,7 @@ use Rattle.records.specs.Judging.{judge}
 use Rattle.records.specs.Meaning.{badges_of, ticks_of}
 use Rattle.records.specs.Verdicts.{Values}
 use Rattle.days.specs.Calls.{read_of}
-use Rattle.log.specs.Buffers.{Delivered}
+use Rattle.logs.specs.Buffers.{Delivered}
 use Rattle.thresholds.specs.Ranges.{plain}
 use Rattle.spans.specs.Encoding.{form_of, record_bytes, head_badges, report_bytes, decode_cores}
 use Rattle.groups.specs.Calls.{report_of}

@@ -4,7 +4,7 @@ ghost use Rattle.text.specs.Listing.{field};
 ghost use Rattle.text.specs.Making.{digit_room, Appends};
 
 use crate::decimal::spell;
-use log::put;
+use logs::put;
 
 // Appends bytes to so many that stand at the start of a line, and answers how many there are then.
 pub(crate) fn append(line: &mut [u8], at: usize, bytes: &[u8]) -> usize

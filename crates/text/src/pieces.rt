@@ -6,7 +6,7 @@ ghost use Rattle.text.specs.Calls.{shown_lines};
 
 use crate::shown::{line_count, make_line};
 use groups::Written;
-use log::put;
+use logs::put;
 
 // How far a piece came: the place of the next line, and the number of bytes written.
 #[derive(Drop)]

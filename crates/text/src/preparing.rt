@@ -4,7 +4,7 @@ ghost use Rattle.groups.specs.Refusals.{written_outcome};
 ghost use Rattle.text.specs.Calls.{prepare_of};
 
 use groups::{Refusal, Thresholds, Written, report};
-use log::{Verdict, read};
+use logs::{Verdict, read};
 use sets::BadgeSet;
 
 // Reads a log into the words that are lent, and puts the plain report of its day's groups, with all badges under review, into the buffer that is lent.

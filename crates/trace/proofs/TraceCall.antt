@@ -8,8 +8,8 @@ use Rattle.records.specs.Outcomes.{Outcome, refused, success}
 use Rattle.days.specs.Days.{LentDay}
 use Rattle.days.specs.Calls.{check_of}
 use Rattle.days.proofs.Checks.{check-day}
-use Rattle.log.specs.Buffers.{deliver}
-use Rattle.log.proofs.Delivering.{deliver-refused, deliver-passed, deliver-short, deliver-fits, deliver-success}
+use Rattle.logs.specs.Buffers.{deliver}
+use Rattle.logs.proofs.Delivering.{deliver-refused, deliver-passed, deliver-short, deliver-fits, deliver-success}
 use Rattle.chains.specs.Chains.{Contact}
 use Rattle.chains.specs.Traces.{IsTrace}
 use Rattle.chains.specs.Sweep.{trace_bytes}

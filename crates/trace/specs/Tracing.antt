@@ -3,7 +3,7 @@ use Rattle.std.specs.Prelude.{List, ◌++◌, ◌≡◌, ℕ, ◌+◌, ◌≤◌
 use Rattle.records.specs.Outcomes.{Outcome, refused, success}
 use Rattle.days.specs.Days.{LentDay}
 use Rattle.days.specs.Calls.{check_of}
-use Rattle.log.specs.Buffers.{Delivered}
+use Rattle.logs.specs.Buffers.{Delivered}
 use Rattle.chains.specs.Chains.{Contact}
 use Rattle.chains.specs.Traces.{IsTrace}
 use Rattle.chains.specs.Judging.{StartOfDay}

@@ -5,7 +5,7 @@ ghost use Rattle.trace.specs.Refusals.{number_of, offset_of};
 #[derive(Drop)]
 pub enum Refusal {
     // One that the log part gives: 8 to 11.
-    Log(log::Refusal),
+    Log(logs::Refusal),
     // 22: an index of n or more, or a start tick of T or more.
     InvalidStart,
 }

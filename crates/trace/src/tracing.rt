@@ -1,7 +1,7 @@
 // The call that traces an exposure.
 ghost use Rattle.std.specs.Prelude.{◌≡◌};
 ghost use Rattle.days.specs.Days.{LentDay};
-ghost use Rattle.log.specs.Buffers.{deliver};
+ghost use Rattle.logs.specs.Buffers.{deliver};
 ghost use Rattle.chains.specs.Judging.{start_judged};
 ghost use Rattle.trace.specs.Refusals.{written_outcome};
 ghost use Rattle.trace.specs.Calls.{trace_of};
@@ -10,7 +10,7 @@ ghost use Rattle.trace.specs.Tracing.{Traced};
 use crate::answer::Written;
 use crate::refusal::Refusal;
 use crate::sweeping::sweep;
-use log::{Checked, check_words};
+use logs::{Checked, check_words};
 
 // Puts the trace of a day whose words have passed into the buffer that is lent: judged by 22 and 9. It has 2n bytes, so 9 is judged before anything is
 // worked out.
@@ -34,7 +34,7 @@ fn trace_day(
     }
     let size = badges + badges;
     if buffer.len() < size {
-        return Written::Refused(Refusal::Log(log::Refusal::BufferTooShort));
+        return Written::Refused(Refusal::Log(logs::Refusal::BufferTooShort));
     }
     sweep(&mut buffer[..size], words, badges, ticks, index, start);
     Written::Bytes(size)

@@ -2,7 +2,7 @@
 ghost use Rattle.std.specs.Prelude.{◌≡◌};
 ghost use Rattle.records.specs.Verdicts.{verdict_outcome};
 ghost use Rattle.receivers.specs.Refusals as receivers;
-ghost use Rattle.log.specs.Calls as log;
+ghost use Rattle.logs.specs.Calls as log;
 ghost use Rattle.trace.specs.Refusals as trace;
 ghost use Rattle.groups.specs.Refusals as groups;
 ghost use Rattle.ward.specs.Answers.{refused_answer, read_answer, join_answer, written_answer};
@@ -15,12 +15,12 @@ fn refused(number: u8, offset: usize) -> [u64; 5]
 }
 
 // What read answered.
-pub(crate) fn read_answer(verdict: log::Verdict) -> [u64; 5]
+pub(crate) fn read_answer(verdict: logs::Verdict) -> [u64; 5]
     ensures { result ≡ read_answer (verdict_outcome verdict) }
 {
     match verdict {
-        log::Verdict::Refused(refusal) => refused(refusal.number(), refusal.offset()),
-        log::Verdict::Accepted {
+        logs::Verdict::Refused(refusal) => refused(refusal.number(), refusal.offset()),
+        logs::Verdict::Accepted {
             badges,
             ticks,
             contacts,
@@ -39,12 +39,12 @@ pub(crate) fn join_answer(joined: receivers::Joined) -> [u64; 5]
 }
 
 // What a call of the log part that fills a result buffer answered.
-pub(crate) fn log_answer(written: log::Written) -> [u64; 5]
+pub(crate) fn log_answer(written: logs::Written) -> [u64; 5]
     ensures { result ≡ written_answer (log.written_outcome written) }
 {
     match written {
-        log::Written::Refused(refusal) => refused(refusal.number(), refusal.offset()),
-        log::Written::Bytes(count) => [0, 0, 0, 0, count as u64],
+        logs::Written::Refused(refusal) => refused(refusal.number(), refusal.offset()),
+        logs::Written::Bytes(count) => [0, 0, 0, 0, count as u64],
     }
 }
 

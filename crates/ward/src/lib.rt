@@ -9,7 +9,7 @@ ghost use Rattle.std.specs.Prelude.{◌≡◌};
 ghost use Rattle.sets.specs.Members.{set_of_two};
 ghost use Rattle.days.specs.Calls.{read_of};
 ghost use Rattle.receivers.specs.Joining.{join_of};
-ghost use Rattle.log.specs.Calls.{tidy_of, write_of};
+ghost use Rattle.logs.specs.Calls.{tidy_of, write_of};
 ghost use Rattle.trace.specs.Calls.{trace_of};
 ghost use Rattle.trace.specs.Tracing.{Traced};
 ghost use Rattle.thresholds.specs.Ranges.{least_of};
@@ -22,13 +22,13 @@ use answers::{group_answer, join_answer, log_answer, read_answer, trace_answer};
 use groups::Thresholds;
 use sets::BadgeSet;
 
-// log::read.
+// logs::read.
 #[unsafe(no_mangle)]
 pub extern "C" fn ward_read(log: &[u8], words: &mut [u64], answer: &mut [u64; 5])
     ensures answer { answer.new ≡ read_answer (read_of log.now words.old).answer }
     ensures words { words.new ≡ (read_of log.now words.old).words }
 {
-    let verdict = log::read(log, words);
+    let verdict = logs::read(log, words);
     *answer = read_answer(verdict);
 }
 
@@ -50,18 +50,18 @@ pub extern "C" fn ward_join(
     *answer = join_answer(joined);
 }
 
-// log::tidy.
+// logs::tidy.
 #[unsafe(no_mangle)]
 pub extern "C" fn ward_tidy(log: &[u8], work: &mut [u64], out: &mut [u8], answer: &mut [u64; 5])
     ensures answer { answer.new ≡ written_answer (tidy_of log.now work.old out.old).answer }
     ensures words { work.new ≡ (tidy_of log.now work.old out.old).words }
     ensures leaves { out.new ≡ (tidy_of log.now work.old out.old).buffer }
 {
-    let written = log::tidy(log, work, out);
+    let written = logs::tidy(log, work, out);
     *answer = log_answer(written);
 }
 
-// log::write.
+// logs::write.
 #[unsafe(no_mangle)]
 pub extern "C" fn ward_write(
     words: &[u64],
@@ -73,7 +73,7 @@ pub extern "C" fn ward_write(
     ensures answer { answer.new ≡ written_answer (write_of badges ticks words.now out.old).answer }
     ensures leaves { out.new ≡ (write_of badges ticks words.now out.old).buffer }
 {
-    let written = log::write(words, badges, ticks, out);
+    let written = logs::write(words, badges, ticks, out);
     *answer = log_answer(written);
 }
 

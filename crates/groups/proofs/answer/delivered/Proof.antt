@@ -1,7 +1,7 @@
 -- `delivered` meets its contract: each case of the log part's answer becomes the case that has the same outcome.
 use mathlib.Core.Path.{sym, ap}
 use borrow.Author.Rules.{rules}
-use Rattle.log.specs.Calls.{written_outcome}
+use Rattle.logs.specs.Calls.{written_outcome}
 use Rattle.groups.proofs.answer.delivered.Statement.{statement}
 use Rattle.groups.proofs.answer.delivered.Tie as tie
 

@@ -5,7 +5,7 @@ use Prim.Native.Nat.{ℕ, ◌-◌}
 use native.Mathlib.Omega.{arith}
 use lib.ListN.{take}
 use borrow.Author.Rules.{rules}
-use Rattle.log.specs.Buffers.{place}
+use Rattle.logs.specs.Buffers.{place}
 use Rattle.spans.specs.Encoding.{core_bytes}
 use Rattle.spans.proofs.Encoding.{encode-core-take}
 use Rattle.groups.specs.Appending.{core_of}

@@ -10,7 +10,7 @@ use borrow.Author.Rules.{rules}
 use Rattle.sets.specs.Members.{capacity, members}
 use Rattle.records.specs.Outcomes.{Outcome, success}
 use Rattle.records.proofs.WithinLimits.{limits_of}
-use Rattle.log.specs.Buffers.{deliver}
+use Rattle.logs.specs.Buffers.{deliver}
 use Rattle.cores.specs.Rows.{core_numbers}
 use Rattle.spans.specs.Spans.{SpanOfDay}
 use Rattle.spans.specs.Judging.{core_number_bytes}

@@ -3,8 +3,8 @@ use mathlib.Core.Path.{◌≡◌, sym, ap, ◌∙◌}
 use borrow.Author.Rules.{rules}
 use Rattle.sets.specs.Members.{members}
 use Rattle.records.specs.Outcomes.{success}
-use Rattle.log.specs.Buffers.{Delivered}
-use Rattle.log.proofs.Delivering.{deliver-refused, deliver-passed}
+use Rattle.logs.specs.Buffers.{Delivered}
+use Rattle.logs.proofs.Delivering.{deliver-refused, deliver-passed}
 use Rattle.groups.specs.Refusals.{judged_outcome}
 use Rattle.spans.specs.Judging.{review_of}
 use Rattle.spans.proofs.Judging.{review-day}

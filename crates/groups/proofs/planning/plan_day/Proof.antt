@@ -11,7 +11,7 @@ use Rattle.sets.specs.Sets.{is_sub, full}
 use Rattle.sets.specs.Members.{capacity, members}
 use Rattle.records.specs.Limits.{max_ticks}
 use Rattle.records.proofs.WithinLimits.{limits_of}
-use Rattle.log.proofs.Delivering.{leaves-refused}
+use Rattle.logs.proofs.Delivering.{leaves-refused}
 use Rattle.spans.specs.SpanCores.{SpanCore}
 use Rattle.spans.specs.Encoding.{form_of, core_bytes, plan_bytes}
 use Rattle.spans.proofs.Judging.{judged-query, judged-reviewed, judged-parts}

@@ -7,8 +7,8 @@ use borrow.Author.Rules.{rules}
 use borrow.Author.Tests.{not-true, not-false}
 use Rattle.sets.specs.Members.{members}
 use Rattle.records.specs.Outcomes.{Outcome}
-use Rattle.log.specs.Buffers.{deliver}
-use Rattle.log.proofs.Delivering.{leaves-refused}
+use Rattle.logs.specs.Buffers.{deliver}
+use Rattle.logs.proofs.Delivering.{leaves-refused}
 use Rattle.thresholds.proofs.Enough.{ranges-of}
 use Rattle.spans.proofs.Judging.{judged-range, judged-report}
 use Rattle.groups.proofs.reporting.report_day.Statement.{statement}

@@ -7,7 +7,7 @@ use lib.ListN.{length}
 use borrow.Author.Rules.{rules}
 use Rattle.sets.specs.Members.{members}
 use Rattle.records.proofs.WithinLimits.{limits_of}
-use Rattle.log.specs.Buffers.{place}
+use Rattle.logs.specs.Buffers.{place}
 use Rattle.spans.specs.Encoding.{Form, max_records, core_bytes}
 use Rattle.groups.proofs.Narrowing.{empty-zeros}
 use Rattle.groups.proofs.Appended.{short-records}

@@ -4,7 +4,7 @@ use borrow.Author.Rules.{rules}
 use Rattle.days.specs.Days.{LentDay}
 use Rattle.days.proofs.Checks.{check-passed}
 use Rattle.checks.specs.Answers.{checked_outcome}
-use Rattle.log.specs.Buffers.{Delivered}
+use Rattle.logs.specs.Buffers.{Delivered}
 use Rattle.trace.proofs.TraceCall.{trace-refused, trace-passed, traced}
 use Rattle.trace.proofs.tracing.trace.Statement.{statement}
 use Rattle.trace.proofs.tracing.trace.Tie as tie

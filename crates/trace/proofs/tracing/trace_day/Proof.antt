@@ -7,8 +7,8 @@ use native.Mathlib.Omega.{arith}
 use lib.ListN.{drop}
 use lib.Seq.{length-take-le}
 use borrow.Author.Rules.{rules}
-use Rattle.log.specs.Buffers.{Delivered}
-use Rattle.log.proofs.Delivering.{leaves-refused}
+use Rattle.logs.specs.Buffers.{Delivered}
+use Rattle.logs.proofs.Delivering.{leaves-refused}
 use Rattle.chains.specs.Judging.{StartOfDay}
 use Rattle.chains.proofs.Judging.{start-no, start-few}
 use Rattle.trace.proofs.TraceCall.{start_fits, start-short}

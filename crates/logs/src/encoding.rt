@@ -1,0 +1,71 @@
+// Records put into a buffer in their bytes.
+ghost use Rattle.std.specs.Prelude.{◌≡◌, ◌∷◌, []};
+ghost use Rattle.records.specs.Records.{encode};
+ghost use Rattle.logs.specs.Buffers.{place};
+ghost use Rattle.logs.specs.Writing.{Appends, Roomy};
+
+use records::{MAX_CONTACTS, Record};
+
+// Lays bytes over a buffer from an offset on. Where the buffer does not hold them there, it stays as it is.
+pub fn put(buffer: &mut [u8], at: usize, bytes: &[u8])
+    ensures { buffer.new ≡ place at bytes.now buffer.old }
+{
+    if buffer.len() < bytes.len() {
+        return;
+    }
+    if buffer.len() - bytes.len() < at {
+        return;
+    }
+    for i in 0..bytes.len() {
+        buffer[at + i] = bytes[i];
+    }
+}
+
+// Puts a record, in its bytes, at an offset. Where the buffer does not hold it there, it stays as it is.
+pub fn put_record(buffer: &mut [u8], at: usize, record: Record)
+    ensures { buffer.new ≡ place at (encode «record») buffer.old }
+{
+    match record {
+        Record::Header { badges, ticks } => {
+            let bytes = [b'B', b'H', badges, ticks];
+            put(buffer, at, &bytes);
+        }
+        Record::Contact { a, b, first, last } => {
+            let bytes = [b'C', b'T', a, b, first, last];
+            put(buffer, at, &bytes);
+        }
+        Record::End { count } => {
+            let second = count / 256;
+            let third = second / 256;
+            let fourth = third / 256;
+            let bytes = [
+                b'E',
+                b'D',
+                (count % 256) as u8,
+                (second % 256) as u8,
+                (third % 256) as u8,
+                (fourth % 256) as u8,
+            ];
+            put(buffer, at, &bytes);
+        }
+    }
+}
+
+// Appends a contact record to the count that are in a log's buffer, and answers how many there are then: 8,001 stands for too many.
+pub(crate) fn append_contact(
+    buffer: &mut [u8],
+    count: usize,
+    a: u8,
+    b: u8,
+    first: u8,
+    last: u8,
+) -> usize
+    requires { Roomy count buffer.old }
+    ensures { Appends (Record.Contact a b first last ∷ []) count result buffer.old buffer.new }
+{
+    if MAX_CONTACTS <= count {
+        return MAX_CONTACTS + 1;
+    }
+    put_record(buffer, 4 + 6 * count, Record::Contact { a, b, first, last });
+    count + 1
+}

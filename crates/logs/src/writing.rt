@@ -1,0 +1,88 @@
+// The call that writes a day's words as a tidy log.
+ghost use Rattle.std.specs.Prelude.{◌≡◌};
+ghost use Rattle.records.specs.Outcomes.{success};
+ghost use Rattle.logs.specs.Buffers.{deliver};
+ghost use Rattle.logs.specs.Writing.{Writable, Encodes};
+ghost use Rattle.logs.specs.Calls.{write_of, written_outcome};
+
+use crate::encoding::{put, put_record};
+use crate::pairs::append_row;
+use checks::{Checked, check_words};
+use records::{MAX_CONTACTS, MAX_LOG_BYTES, Record, Refusal};
+
+// What came of writing a log into a buffer: the number of bytes written, or a refusal.
+#[derive(Drop)]
+pub enum Written {
+    Bytes(usize),
+    Refused(Refusal),
+}
+
+// Puts an answer, in its bytes, into the buffer that is lent, if the buffer holds it. Refused by 9, and then no byte is changed; bytes after
+// the answer are never touched.
+pub fn deliver(bytes: &[u8], buffer: &mut [u8]) -> Written
+    ensures answer { written_outcome result ≡ (deliver (success bytes.now) buffer.old).answer }
+    ensures leaves { buffer.new ≡ (deliver (success bytes.now) buffer.old).buffer }
+{
+    if buffer.len() < bytes.len() {
+        return Written::Refused(Refusal::BufferTooShort);
+    }
+    put(buffer, 0, bytes);
+    Written::Bytes(bytes.len())
+}
+
+// Encodes the tidy log of a day's words in a buffer that holds any log, and answers how many contact records it has: 8,001 stands for too
+// many, and the log is then not whole.
+pub(crate) fn encode_day(
+    words: &[u64],
+    n: usize,
+    ticks: usize,
+    log: &mut [u8; MAX_LOG_BYTES],
+) -> usize
+    requires { Writable n ticks words.now }
+    ensures { Encodes n ticks words.now result log.new }
+{
+    put_record(
+        log,
+        0,
+        Record::Header {
+            badges: n as u8,
+            ticks: ticks as u8,
+        },
+    );
+    let mut count: usize = 0;
+    for u in 0..n {
+        let appended = append_row(words, n, ticks, u, log, count);
+        count = appended;
+    }
+    if MAX_CONTACTS < count {
+        return count;
+    }
+    put_record(
+        log,
+        4 + 6 * count,
+        Record::End {
+            count: count as u32,
+        },
+    );
+    count
+}
+
+// Writes a day's words as a tidy log into the buffer that is lent, and answers the number of bytes. Refused by 10, 8, 11, 15 and 9, in that
+// order; a refused call changes no byte, and bytes after the answer are never touched. The log is made once, in memory of its own, and
+// measured; it is copied if there are not too many contact records and the buffer holds it.
+pub fn write(words: &[u64], badges: usize, ticks: usize, buffer: &mut [u8]) -> Written
+    ensures answer { written_outcome result ≡ (write_of badges ticks words.now buffer.old).answer }
+    ensures leaves { buffer.new ≡ (write_of badges ticks words.now buffer.old).buffer }
+{
+    match check_words(words, badges, ticks) {
+        Checked::Refused(refusal) => Written::Refused(refusal),
+        Checked::Day => {
+            let mut log = [0u8; MAX_LOG_BYTES];
+            let count = encode_day(words, badges, ticks, &mut log);
+            if count > MAX_CONTACTS {
+                return Written::Refused(Refusal::TooManyToWrite);
+            }
+            deliver(&log[..10 + 6 * count], buffer)
+        }
+    }
+}
