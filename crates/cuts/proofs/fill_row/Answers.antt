@@ -1,0 +1,25 @@
+-- `fill_row` meets its contract: where the loop is about to go below column t, row c + 1 is filled from t on, `rest` is the greatest sum that row c has
+-- after these columns, and the rows up to c are as they were.
+use native.Mathlib.Omega.{arith}
+use Rattle.cuts.proofs.Maxima.{row-bound}
+use Rattle.cuts.proofs.Steps.{table-small, partly-all, row-none, rest-in-table, row_more}
+use Rattle.cuts.proofs.fill_row.Goals as goal
+
+pub loop-t-init : goal.loop-t-init
+loop-t-init c = (omega arith, omega arith, omega arith, omega arith, row-none c.requires.4)
+
+pub sum_from-requires : goal.sum_from-requires
+sum_from-requires c =
+    let b = c.loop-t.invariant.4 in record {
+      c_bound = (omega arith, omega arith, omega arith, table-small _ _ b.partly.rows (omega arith) (omega arith) (omega arith));
+      none_above = (row-bound c.requires.3 (omega arith) (omega arith), rest-in-table b _ (omega arith) (omega arith) (omega arith) c.greater-rest.ensures);
+    }
+
+pub loop-t-preserved : goal.loop-t-preserved
+loop-t-preserved c =
+    let i = c.loop-t.invariant in
+    let q = c.greater-rest.ensures in
+    (i.0, i.1, omega arith, omega arith, row_more i.4 _ (omega arith) (omega arith) (omega arith) q _ (omega arith) c.sum_from.ensures)
+
+pub returns : goal.returns
+returns c = partly-all c.loop-t.invariant.4.partly (omega arith) (omega arith) (omega arith)

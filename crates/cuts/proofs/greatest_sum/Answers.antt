@@ -1,0 +1,26 @@
+-- `greatest_sum` meets its contract: before end e of the loop, `greatest` is the greatest sum at the ends t to e - 1.
+use native.Mathlib.Omega.{arith}
+use Rattle.cuts.proofs.Greatest.{greatest-none, greatest-next, greatest-all}
+use Rattle.cuts.proofs.Steps.{run-sum-in, small-in}
+use Rattle.cuts.proofs.greatest_sum.Goals as goal
+
+pub loop-e-init : goal.loop-e-init
+loop-e-init c = (omega arith, omega arith, omega arith, greatest-none)
+
+pub overflow_add-total-in-loop-e : goal.overflow_add-total-in-loop-e
+overflow_add-total-in-loop-e c =
+    let a = small-in c.requires.3 c.loop-e.invariant.0 c.loop-e-test.true in
+    omega (arith, c.single.ensures.1)
+
+pub loop-e-preserved : goal.loop-e-preserved
+loop-e-preserved c =
+    let i = c.loop-e.invariant in
+    let o = c.single.ensures in
+    let a = small-in c.requires.3 i.0 c.loop-e-test.true in
+    elim c.if-greatest-total.branch [
+      | goal.then-greatest-total h ↦ (omega arith, omega arith, omega arith, greatest-next i.3 i.0 (run-sum-in _ _ _ _ _ o.0) (omega arith))
+      | goal.else-greatest-total h ↦ (omega arith, omega arith, omega arith, greatest-next i.3 i.0 (run-sum-in _ _ _ _ _ o.0) (omega arith))
+    ]
+
+pub returns : goal.returns
+returns c = let i = c.loop-e.invariant in record { sum = greatest-all i.3 (omega arith); small = i.2 }

@@ -1,0 +1,7 @@
+-- `sum_from` meets its contract: where no run from t has a score above 0, the greatest sum is that of the runs after it.
+use native.Mathlib.Omega.{arith}
+use Rattle.cuts.proofs.Maxima.{sum-of-rest}
+use Rattle.cuts.proofs.sum_from.Goals as goal
+
+pub returns-then-maximum-lt1 : goal.returns-then-maximum-lt1
+returns-then-maximum-lt1 c = let r = c.requires.none_above in sum-of-rest r.0 (omega arith) c.requires.c_bound.3 r.1
