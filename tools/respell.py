@@ -23,6 +23,15 @@ TOGETHER = [
     # a field beside a constant
     ("no_source", "unreached", ["chains/specs/Traces.antt", "chains/proofs/TraceForm.antt", "chains/proofs/TraceLaws.antt", "chains/proofs/TraceUnique.antt"]),
 ]
+# fields and constructors: a dash in their names is the library's way for lemmas alone
+MEMBERS = {
+    "all-so-far", "as-index", "as-reached", "by-18", "by-19", "by-22", "by-9", "by-check", "by-larger", "by-log", "by-member", "by-smaller", "by-sources",
+    "circles-size", "core-numbers", "ends-size", "few-badges", "few-contacts", "few-ticks", "first-rises", "in-packs", "its-first", "its-last", "its-order",
+    "large-size", "large-so-far", "last-rises", "length-of", "log-refused", "members-high", "members-low", "members-size", "never-rises", "no-values",
+    "order-high", "order-low", "orders-size", "packs-room", "packs-size", "plan-ends", "plan-sum", "records-few", "rows-to", "scores-size", "ticks-high",
+    "ticks-low", "with-enough", "words-enough", "words-few", "work-room",
+}
+MEMBER = re.compile(r"(?<![\w'·-])(" + "|".join(sorted(MEMBERS, key=len, reverse=True)) + r")(?![\w'-])")
 # names that port.py turned already, as they stand in the edits and the pages, and older ones that the pages tell of
 TURNED = {
     "andThen", "atLeast", "groupsOf", "inRange", "inWord", "isGroup", "joinOf", "keptBytes", "maxGroups", "mostBytes", "neighboursBefore", "numberOf",
@@ -59,6 +68,8 @@ def main():
             if os.path.relpath(p, "crates") in files:
                 t = re.sub(r"(?<![\w'-])" + name + r"(?![\w'-])", other, t)
         t = CAMEL.sub(lambda m: snake(m.group(1)) if m.group(1) in own else m.group(1), t)
+        if p.endswith((".antt", ".edit")) or p.startswith("docs"):
+            t = MEMBER.sub(lambda m: m.group(1).replace("-", "_"), t)
         if t != old:
             with open(p, "w", encoding="utf-8") as f:
                 f.write(t)
