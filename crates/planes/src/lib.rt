@@ -13,7 +13,7 @@ ghost use Rattle.planes.specs.Lanes.{FullAdder, planes_of, Plus, Constant, Compl
 pub use maximum::largest;
 
 // The planes, the lowest bits first. There are eight: a lane has room for the number of badges that a set of two words holds, and as much again.
-#[derive(Drop)]
+#[derive(Clone, Copy)]
 pub struct Planes {
     pub p0: u64,
     pub p1: u64,
