@@ -27,6 +27,7 @@ impl Thresholds {
     };
 
     // Whether each of the three is within its range.
+    #[tactic(auto, using(crate::proofs::Enough::within))]
     pub fn in_range(self) -> bool
         ensures { result ≡ in_range self }
     {
