@@ -11,7 +11,6 @@ use lib.Seq.{drop-drop, drop_at}
 use Rattle.sets.specs.Bytes.{Bytes}
 use Rattle.records.specs.declared.record.Record.{Record}
 use Rattle.records.specs.declared.record.Record.TheVariants.{End}
-use Rattle.records.specs.declared.record.Decoded.{Decoded}
 use Rattle.records.specs.declared.record.Decoded.TheVariants as d
 use Rattle.records.specs.Limits.{max_contacts, within_limits, words_for}
 use Rattle.records.specs.Records.{size_of, kind_of, decode, encode, encode_all}
@@ -19,7 +18,6 @@ use Rattle.records.specs.Outcomes.{success}
 use Rattle.records.specs.Judging.{valid_contact, judge}
 use Rattle.records.specs.Meaning.{badges_of, ticks_of, in_contact}
 use Rattle.records.specs.Logs.{Mem, log_records}
-use Rattle.records.specs.contracts.record.Decoded.{the_type}
 use Rattle.records.proofs.Outcomes.{success-same}
 use Rattle.records.proofs.Records.{size-pos, length-encode, Encodable, decode-encode}
 use Rattle.records.proofs.Judged.{by-contact}
@@ -29,8 +27,6 @@ use Rattle.days.specs.Days.{day_words, day_of}
 use Rattle.days.specs.Filling.{Accepts, Admissible, Fitting, Marks}
 use Rattle.days.proofs.Days.{day-none}
 use Rattle.days.proofs.Marking.{marks-append}
-use denote.Enum.Declared.{tag_of}
-use types.Run.{OneOf}
 
 -- a record of an accepted log: a contact is valid for the log's n and T, and an end's count fits its bytes
 pub record Proper (n T : ℕ) (r : Record) : Type 0 where
@@ -138,17 +134,9 @@ filling-done log n T at rest words a f h rs e = go f.left f.accepted f.bytes
     go [] g b = f.filled ∙ ap (λ (x : List ℕ). x ++ rest) (same f.before (sym (append-nil f.before) ∙ success-same (sym g ∙ e)))
     go (r ∷ left) g b = absurd (omega (arith, length-drop at log, ap length b, length-append (encode r) (encode_all left), length-encode r, size-pos (kind_of r)))
 
--- what was decoded as a whole record is that record, and none of the decoder's other answers
+-- what was decoded as a whole record is that record
 pub whole_part : {x y : Record} → d.Whole x ≡ d.Whole y → x ≡ y
 whole_part e = cc
-
-not-these : (x : ℕ) → x ≡ 0 → OneOf (1 ∷ 2 ∷ 3 ∷ []) x → ⊥
-not-these x e (inl f) = omega arith
-not-these x e (inr (inl f)) = omega arith
-not-these x e (inr (inr f)) = omega arith
-
-pub whole-only : (x : Decoded) (r : Record) → x ≡ d.Whole r → OneOf (1 ∷ 2 ∷ 3 ∷ []) (tag_of the_type x) → ⊥
-whole-only x r e = not-these (tag_of the_type x) (ap (tag_of the_type) e)
 
 -- an accepted log's n and T are within their limits, and its records fit where its words are there
 pub accepts-limits : {log : List ℕ} {n T : ℕ} → Accepts log n T → within_limits n T ≡ true

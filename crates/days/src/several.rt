@@ -10,7 +10,7 @@ use records::{Refusal, Verdict, judge_from};
 use sets::SET_WORDS;
 
 // What reading them answers: n and T, which all of them have; that they differ in these; or a refusal.
-#[derive(Drop)]
+#[derive(Clone, Copy)]
 pub enum Series {
     Read { badges: usize, ticks: usize },
     DifferentSizes,
@@ -18,7 +18,7 @@ pub enum Series {
 }
 
 // What judging them comes to.
-#[derive(Drop)]
+#[derive(Clone, Copy)]
 pub(crate) enum Judged {
     Accepted(Sizes),
     Refused(Refusal),

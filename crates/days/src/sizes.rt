@@ -3,7 +3,7 @@ ghost use Rattle.std.specs.Prelude.{◌≡◌};
 ghost use Rattle.days.specs.SeriesSteps.{still_alike, compared};
 
 // The size of the first log, and whether the others have it.
-#[derive(Drop)]
+#[derive(Clone, Copy)]
 pub(crate) struct Sizes {
     pub(crate) badges: usize,
     pub(crate) ticks: usize,

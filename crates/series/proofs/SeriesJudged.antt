@@ -7,7 +7,7 @@ use Prim.Native.Nat.{ℕ, suc, ◌+◌, ◌≤◌, ◌<◌}
 use native.Mathlib.Omega.{arith}
 use lib.ListN.{length, drop}
 use borrow.Author.Tests.{eqb-true, eq-eqb, ltb-false, lt-ltb, le-ltb}
-use Rattle.sets.specs.Bools.{◌and◌, ◌or◌, isnt}
+use Rattle.sets.specs.Bools.{◌or◌, isnt}
 use Rattle.sets.proofs.Bools.{and_in, and_left, and_right, or-neither, isnt-false}
 use Rattle.records.specs.declared.record.Record.{Record}
 use Rattle.records.specs.Outcomes.{refused, success, refuse_if, and_then}
@@ -19,6 +19,7 @@ use Rattle.series.specs.Series.{parts, judge_logs, badges_in, ticks_in, Sized, A
 -- the test passes exactly when every log has the size
 pub size-of : (n T : ℕ) (all : List (List Record)) → have_size n T all ≡ true → AllSized n T all
 unfolding have_size
+size-of n T [] e rs i = elim i [ ]
 size-of n T (x ∷ all) e rs (Memᴰ.head i) =
     let a = and_left _ _ e in
     subst (Sized n T) (sym i) (record { badges = eqb-true _ _ (and_left _ _ a); ticks = eqb-true _ _ (and_right _ _ a) })

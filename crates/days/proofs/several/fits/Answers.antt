@@ -7,8 +7,7 @@ use native.Mathlib.Omega.{arith}
 use lib.Dec.{leb}
 use borrow.Author.Tests.{leb-true, le-leb}
 use Rattle.sets.proofs.Bools.{same_test}
-use Rattle.days.proofs.several.fits.Statement.{statement}
-use Rattle.days.proofs.several.fits.Tie as tie
+use Rattle.days.proofs.several.fits.Goals as goal
 
 divided : (count size words : ℕ) → 0 < size → leb count (words / size) ≡ leb (count * size) words
 divided count size words h = same_test _ _
@@ -18,14 +17,11 @@ divided count size words h = same_test _ _
 nothing : (count size words : ℕ) → size ≡ 0 → leb (count * size) words ≡ true
 nothing count size words e = rw (e, mul-zero) (le-leb 0 words (omega arith))
 
-returns : tie.Need-returns
-returns c = sym (nothing _ _ _ c.if1.true)
+pub returns-then-size-eq0 : goal.returns-then-size-eq0
+returns-then-size-eq0 c = sym (nothing _ _ _ c.if-size-eq0.true)
 
-div-result : tie.Need-nonzero-div-result
-div-result c = let h = c.if1.false in omega (arith, h)
+pub nonzero_div-result : goal.nonzero_div-result
+nonzero_div-result c = let h = c.if-size-eq0.false in omega (arith, h)
 
-returns-2 : tie.Need-returns-2
-returns-2 c = let h = c.if1.false in divided c.before.args.count c.before.args.size c.before.args.words (omega (arith, h))
-
-pub fits-spec : {M : Type 1} → statement M
-fits-spec = tie.close (tie.spec returns div-result returns-2)
+pub returns : goal.returns
+returns c = let h = c.if-size-eq0.false in divided c.args.count c.args.size c.args.words (omega (arith, h))
