@@ -10,7 +10,7 @@ use Rattle.sets.proofs.Pairs.{members-lt}
 use Rattle.cores.specs.Rows.{graph}
 use Rattle.innermost.specs.Columns.{transposed}
 use Rattle.innermost.specs.Degrees.{number_of}
-use Rattle.cores.proofs.Peeled.{Peeling}
+use Rattle.cores.proofs.Peelings.{Peeling}
 use Rattle.innermost.proofs.CountedDegrees.{counting-less}
 use Rattle.innermost.proofs.Settling.{Settling, settling-start, low-sub, settling-less, settling-falls, settling-end, too_few, query-lost}
 use Rattle.innermost.proofs.rising.settle.Statement.{statement}
