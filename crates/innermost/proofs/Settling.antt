@@ -24,7 +24,7 @@ use Rattle.cores.proofs.Degrees.{degree-le, degree-grows}
 use Rattle.cores.proofs.Cores.{core-cohesive, core-largest}
 use Rattle.cores.proofs.Orders.{contains-of}
 use Rattle.innermost.proofs.Columns.{degree-transposed}
-use Rattle.cores.proofs.Peeled.{Peeling, peel-none}
+use Rattle.cores.proofs.Peelings.{Peeling, peel-none}
 
 -- What is left of the set s while badges are dropped at order k.
 pub record Settling (rows : ℕ → ℕ) (s k left : ℕ) (a : ℕ → ℕ) : Type 0 where

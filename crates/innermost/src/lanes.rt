@@ -17,7 +17,7 @@ use planes::Planes;
 use sets::{BadgeSet, ROW_WORDS, SET_WORDS, WORD_BITS};
 
 // The in-degrees of the badges of a set's lower word in the lanes of its planes, and those of the badges of the upper word.
-#[derive(Drop)]
+#[derive(Clone, Copy)]
 pub(crate) struct Degrees {
     pub(crate) low: Planes,
     pub(crate) high: Planes,
