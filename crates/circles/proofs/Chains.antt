@@ -3,7 +3,7 @@
 use mathlib.Core.Path.{◌≡◌}
 use Prim.Native.Nat.{ℕ}
 use Rattle.sets.specs.Sets.{In, Sub, difference}
-use Rattle.sets.proofs.Sets.{some, in-difference, of-difference, sub_trans, ext}
+use Rattle.sets.proofs.Sets.{in-difference, of-difference, sub_trans, ext}
 use Rattle.cores.specs.Graphs.{Symmetric}
 use Rattle.cores.proofs.Degrees.{FewerPairs}
 use Rattle.circles.specs.Chains.{Chain, start, link, IsCircle}

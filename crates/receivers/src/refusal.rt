@@ -2,7 +2,7 @@
 ghost use Rattle.std.specs.Prelude.{◌≡◌};
 ghost use Rattle.receivers.specs.Refusals.{number_of, offset_of};
 
-#[derive(Drop)]
+#[derive(Clone, Copy)]
 pub enum Refusal {
     // One that the log part gives: 1 to 8.
     Log(records::Refusal),

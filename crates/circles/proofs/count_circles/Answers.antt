@@ -1,0 +1,40 @@
+-- `count_circles` meets its contract. The circles counted with those of the members that are left are those of the set. The walk ends as the
+-- members that are left get fewer.
+use mathlib.Core.Path.{ap}
+use mathlib.Core.Bool.{not}
+use Prim.Native.Nat.{◌^◌, ◌<◌}
+use native.Mathlib.Omega.{arith}
+use Rattle.sets.specs.Members.{capacity, members}
+use Rattle.sets.proofs.Pairs.{members-lt}
+use Rattle.sets.proofs.Walks.{none-unseen}
+use Rattle.circles.proofs.Counting.{count-start, count-few, count-more, count_less, count-end, some_left}
+use Rattle.circles.proofs.count_circles.Goals as goal
+use Rattle.circles.proofs.count_circles.Goals.{Start}
+
+-- the set holds badges below the capacity alone
+wide : (c : goal.Start) → members c.args.s < 2 ^ capacity
+wide c = members-lt c.args.s (omega arith) (omega arith)
+
+pub loop-left-init : goal.loop-left-init
+loop-left-init c = count-start _ _ _
+
+pub tally-tallied-requires : goal.tally-tallied-requires
+tally-tallied-requires c =
+    (count-few (wide (goal.at.tally-tallied-requires c).Start) c.loop-left.invariant).1
+
+pub overflow_add-all : goal.overflow_add-all
+overflow_add-all c =
+    omega (arith, (count-few (wide (goal.at.overflow_add-all c).Start) c.loop-left.invariant).0)
+
+pub loop-left-smaller : goal.loop-left-smaller
+loop-left-smaller c =
+    rw (c.difference-rest.ensures, c.circle_of-circle.ensures) (count_less (wide (goal.at.loop-left-smaller c).Start) c.loop-left.invariant (some_left c.is_empty.ensures (ap not c.loop-left-test.true)))
+
+pub loop-left-preserved : goal.loop-left-preserved
+loop-left-preserved c =
+    rw (c.difference-rest.ensures, c.tally-tallied.ensures, c.circle_of-circle.ensures) (count-more (wide (goal.at.loop-left-preserved c).Start) c.loop-left.invariant (some_left c.is_empty.ensures (ap not c.loop-left-test.true)))
+
+pub returns : goal.returns
+returns c =
+    let e = count-end (wide (goal.at.returns c).Start) c.loop-left.invariant (none-unseen c.is_empty.ensures (ap not c.loop-left-test.false)) in
+    record { all = e.0; large = e.1 }
