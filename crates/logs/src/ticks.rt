@@ -8,7 +8,7 @@ ghost use Rattle.logs.specs.TickSets.{has_tick, tick_capacity, First};
 use sets::WORD_BITS;
 
 // Some of the ticks 0 to 127: bit t of the low word says whether tick t is in the set, bit t of the high word whether tick 64 + t is.
-#[derive(Drop)]
+#[derive(Clone, Copy)]
 pub(crate) struct TickSet {
     pub(crate) low: u64,
     pub(crate) high: u64,

@@ -11,7 +11,7 @@ use checks::{Checked, check_words};
 use records::{MAX_CONTACTS, MAX_LOG_BYTES, Record, Refusal};
 
 // What came of writing a log into a buffer: the number of bytes written, or a refusal.
-#[derive(Drop)]
+#[derive(Clone, Copy)]
 pub enum Written {
     Bytes(usize),
     Refused(Refusal),

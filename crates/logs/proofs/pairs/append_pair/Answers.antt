@@ -1,0 +1,53 @@
+-- append_pair meets its contract: the runs that end before the tick at hand are appended, and a run starts with this tick, or there is none
+-- from it on. The loop ends as the tick grows.
+use mathlib.Core.Path.{refl}
+use Prim.Native.Nat.{◌<◌}
+use native.Mathlib.Omega.{arith}
+use Rattle.logs.specs.TickSets.{tick_capacity, has_tick}
+use Rattle.logs.proofs.PairRuns.{RunTo, from_start, from_end, run-to}
+use Rattle.logs.proofs.Appending.{appends-none, runs_none, runs-more, runs-all}
+use Rattle.logs.proofs.pairs.append_pair.Goals as goal
+use Rattle.logs.proofs.pairs.append_pair.Goals.{After-first_outside-end}
+
+-- the run at hand
+here : (c : goal.After-first_outside-end) →
+    let a = c.args in RunTo a.ticks (has_tick a.met) c.loop-first.first c.first_outside-end.result
+here c =
+    let l : c.args.ticks < tick_capacity = omega arith in
+    run-to _ _ l c.requires.4.at c.loop-first.invariant.2 c.loop-first-test.true c.first_outside-end.ensures
+
+pub loop-first-init : goal.loop-first-init
+loop-first-init c =
+    let f = c.first_in-first.ensures in
+    let l : c.args.ticks < tick_capacity = omega arith in
+    (f.high, refl, from_start _ _ l f, rw (runs_none c.args.ticks (has_tick c.args.met) c.args.u c.args.v f) (appends-none _ _ (omega arith)))
+
+pub overflow_sub-last : goal.overflow_sub-last
+overflow_sub-last c = omega (arith, (here (goal.at.overflow_sub-last c).After-first_outside-end).rising)
+
+pub overflow_cast-last : goal.overflow_cast-last
+overflow_cast-last c = omega (arith, (here (goal.at.overflow_cast-last c).After-first_outside-end).inside)
+
+pub append_contact-appended-requires : goal.append_contact-appended-requires
+append_contact-appended-requires c = record { counted = omega (arith, c.loop-first.invariant.3.number); long = omega arith }
+
+pub first_in-next-requires : goal.first_in-next-requires
+first_in-next-requires c = omega (arith, (here (goal.at.first_in-next-requires c).After-first_outside-end).inside)
+
+pub loop-first-smaller : goal.loop-first-smaller
+loop-first-smaller c =
+    let r = here (goal.at.loop-first-smaller c).After-first_outside-end in
+    omega (arith, r.rising, r.inside, c.first_in-next.ensures.low, c.first_in-next.ensures.high)
+
+pub loop-first-preserved : goal.loop-first-preserved
+loop-first-preserved c =
+    let o = (goal.at.loop-first-preserved c).After-first_outside-end in
+    let i = o.loop-first.invariant in
+    let l : c.args.ticks < tick_capacity = omega arith in
+    let f = c.first_in-next.ensures in
+    (f.high, omega arith, from_end _ _ l (here o) f, runs-more c.args.ticks (has_tick c.args.met) c.args.u c.args.v (here o) f i.3 c.append_contact-appended.ensures)
+
+pub returns : goal.returns
+returns c =
+    let e = runs-all c.args.ticks (has_tick c.args.met) c.args.u c.args.v c.requires.4.at c.loop-first-test.false in
+    rw e at c.loop-first.invariant.3
