@@ -21,7 +21,7 @@ TOGETHER = [
     ("run_ends", "run-ends", ["log/proofs/TidyCount.antt"]),
     ("end_after", "end-after", ["days/proofs/SeriesLoops.antt"]),
     # a field beside a constant
-    ("no_source", "unreached", ["chains/specs/Traces.antt", "chains/proofs/TraceForm.antt", "chains/proofs/TraceLaws.antt", "chains/proofs/TraceUnique.antt"]),
+    ("no_source", "sourceless", ["chains/specs/Traces.antt", "chains/proofs/TraceForm.antt", "chains/proofs/TraceLaws.antt", "chains/proofs/TraceUnique.antt"]),
 ]
 # fields and constructors: a dash in their names is the library's way for lemmas alone
 MEMBERS = {

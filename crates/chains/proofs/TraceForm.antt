@@ -225,5 +225,5 @@ module _ (n T : ℕ) (ws : List ℕ) (index s : ℕ) (d : StartOfDay n T ws inde
     unreached = λ u o. subst (λ (x : ℕ). (x ≡ never) ↔ ((t : ℕ) → Arrives u t → ⊥)) (sym (at_tick u o.below)) (tick-unreached u o.apart);
     source = shows-source;
     back = followed (λ t u v c. c.one) shows-start shows-source;
-    unreached = shows-none;
+    sourceless = shows-none;
   }

@@ -51,7 +51,7 @@ module _ {Meet : ℕ → ℕ → ℕ → Type 0} (n index s : ℕ) (below : (t u
       one-source
       (subst (λ (t : ℕ). IsSource Meet index s (tick_in ys) t u (source_in n xs u)) (same-tick u o.below) (source-by (tick_in xs) (tick_in ys) (λ t w v m. same-tick w (below t w v m)) (x.source u o h)))
       (y.source u o (omega (arith, same-tick u o.below))))
-      (λ u o e. x.unreached u o e ∙ sym (y.unreached u o (sym (same-tick u o.below) ∙ e)))
+      (λ u o e. x.sourceless u o e ∙ sym (y.sourceless u o (sym (same-tick u o.below) ∙ e)))
 
   pub trace-unique : xs ≡ ys
   trace-unique = halves-same n xs ys x.long y.long same-tick same_source

@@ -57,4 +57,4 @@ pub record IsTrace (Meet : ℕ → ℕ → ℕ → Type 0) (n index s : ℕ) (l 
   -- "Each reached badge other than the index also shows its source", and the sources lead back to the index; "and 255 where there is none"
   pub source : (u : ℕ) → Other n index u → tick_in l u < never → IsSource Meet index s (tick_in l) (tick_in l u) u (source_in n l u)
   pub back : (u : ℕ) → Other n index u → tick_in l u < never → FollowedBack Meet n index s l u
-  pub unreached : (u : ℕ) → Other n index u → tick_in l u ≡ never → source_in n l u ≡ no_source
+  pub sourceless : (u : ℕ) → Other n index u → tick_in l u ≡ never → source_in n l u ≡ no_source
