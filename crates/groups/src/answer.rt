@@ -6,7 +6,7 @@ ghost use Rattle.groups.specs.Refusals.{written_outcome};
 use crate::refusal::Refusal;
 
 // The number of bytes written, or a refusal.
-#[derive(Drop)]
+#[derive(Clone, Copy)]
 pub enum Written {
     Bytes(usize),
     Refused(Refusal),

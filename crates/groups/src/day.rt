@@ -2,7 +2,7 @@
 use sets::BadgeSet;
 
 // The n and T of a day, and the badges of it that are under review: all cores are cores among those.
-#[derive(Drop)]
+#[derive(Clone, Copy)]
 pub(crate) struct Day {
     pub(crate) badges: usize,
     pub(crate) ticks: usize,
@@ -10,7 +10,7 @@ pub(crate) struct Day {
 }
 
 // The first and the last tick of a span.
-#[derive(Drop)]
+#[derive(Clone, Copy)]
 pub(crate) struct Span {
     pub(crate) first: usize,
     pub(crate) last: usize,

@@ -9,7 +9,7 @@ use logs::put;
 use sets::BadgeSet;
 
 // What a record of a report or a plan shows: the order of a core or the score of a part, its span, and its members.
-#[derive(Drop)]
+#[derive(Clone, Copy)]
 pub(crate) struct Shown {
     pub(crate) order: u8,
     pub(crate) first: u8,

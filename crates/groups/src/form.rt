@@ -6,7 +6,7 @@ ghost use Rattle.groups.specs.Appending.{form_in};
 use sets::WORD_BITS;
 
 // The marks of a report, of its groups, of a plan and of its parts, and the bytes of a set.
-#[derive(Drop)]
+#[derive(Clone, Copy)]
 pub(crate) struct Form {
     pub(crate) report: [u8; 2],
     pub(crate) group: [u8; 2],

@@ -17,14 +17,14 @@ use sets::{BadgeSet, SET_WORDS, put_set, set_at, widen};
 use thresholds::Thresholds;
 
 // A core that is kept: what a record would show of it whole, and how many circles it has.
-#[derive(Drop)]
+#[derive(Clone, Copy)]
 pub(crate) struct Kept {
     pub(crate) shown: Shown,
     pub(crate) circles: u8,
 }
 
 // How many cores are kept, and how many records they make.
-#[derive(Drop)]
+#[derive(Clone, Copy)]
 pub(crate) struct Tally {
     pub(crate) cores: usize,
     pub(crate) records: usize,

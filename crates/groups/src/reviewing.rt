@@ -12,7 +12,7 @@ use logs::{Checked, check_words};
 use sets::BadgeSet;
 
 // A day and a review of it, or a refusal.
-#[derive(Drop)]
+#[derive(Clone, Copy)]
 pub(crate) enum Judged {
     Passed,
     Refused(Refusal),

@@ -15,7 +15,7 @@ use sets::{ROW_WORDS, widen};
 use thresholds::Thresholds;
 
 // How many records there are, and the span that rows are of.
-#[derive(Drop)]
+#[derive(Clone, Copy)]
 struct Walked {
     count: usize,
     first: usize,

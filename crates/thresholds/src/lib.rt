@@ -11,7 +11,7 @@ use records::{MAX_BADGES, MAX_TICKS};
 use sets::BadgeSet;
 
 // The least length of a group's span in ticks, its least order and its least number of members.
-#[derive(Drop)]
+#[derive(Clone, Copy)]
 pub struct Thresholds {
     pub ticks: usize,
     pub order: usize,

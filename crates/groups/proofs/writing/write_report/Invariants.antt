@@ -1,0 +1,8 @@
+-- `write_report` meets its contract: before the turn of a core the records of the cores before it are appended.
+use Rattle.sets.specs.Members.{members}
+use Rattle.groups.proofs.ReportBytes.{ReportSoFar}
+use Rattle.groups.proofs.writing.write_report.Given as goal
+
+abbrev pub invariant-loop-i : goal.invariant-loop-i
+invariant-loop-i l =
+    ReportSoFar l.day.badges l.day.ticks l.words (members l.day.review) l.least l.i l.count l.first l.last l.rows l.initial.buffer l.buffer
