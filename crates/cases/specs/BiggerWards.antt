@@ -6,7 +6,7 @@ use Rattle.chains.specs.Traces.{never, no_source}
 use Rattle.thresholds.specs.Ranges.{plain}
 use Rattle.promises.specs.D1.{badges}
 use Rattle.cases.specs.RecordBytes.{in8, BH, CT, ED, RH, RW, GW, PW, QW}
-use Rattle.cases.specs.Rows.{Row, read, write, trace, core-numbers, report, plan, listing}
+use Rattle.cases.specs.Rows.{Row, read, write, trace, core_numbers, report, plan, listing}
 use Rattle.cases.specs.Table.{sevens, accepted}
 
 -- n 65, T 1: contacts 0–64 and 63–64, as a log that names them from the other side, and tidy
@@ -41,7 +41,7 @@ foreign64 = 0 ∷ 1 ∷ [] ++ replicate 126 0
 -- its core numbers, its report, and its plan in one part around badge 64: "above that marks RW, GW, PW and QW replace RH, GR, PH and PT, with
 -- 16-byte sets"
 unfoldable pub wide_numbers : Row
-wide_numbers = core-numbers 65 1 wide_words (full 65) 0 0 (sevens 65) (success 65) (1 ∷ [] ++ replicate 62 0 ++ 1 ∷ 1 ∷ [])
+wide_numbers = core_numbers 65 1 wide_words (full 65) 0 0 (sevens 65) (success 65) (1 ∷ [] ++ replicate 62 0 ++ 1 ∷ 1 ∷ [])
 
 unfoldable pub wide_report : Row
 wide_report = report 65 1 wide_words (full 65) plain (sevens 31) (success 31) (RW 65 1 ++ GW 1 0 0 three ++ ED 1)

@@ -7,7 +7,7 @@ use Rattle.chains.specs.Traces.{never, no_source}
 use Rattle.thresholds.specs.Ranges.{least_of, plain}
 use Rattle.promises.specs.D1.{badges}
 use Rattle.cases.specs.RecordBytes.{BH, CT, ED, RH, GR, PH, PT}
-use Rattle.cases.specs.Rows.{Row, read, join, tidy, trace, core-numbers, report, plan, plan-sum, plan-ends, cut_sum, listing, length-of}
+use Rattle.cases.specs.Rows.{Row, read, join, tidy, trace, core_numbers, report, plan, plan_sum, plan_ends, cut_sum, listing, length_of}
 use Rattle.cases.specs.Table.{sevens, room, accepted, sized}
 
 -- five badges, four ticks, in arrival order: 2–0 in ticks 0 to 1, 0–1 in ticks 0 to 2, 1–2 in ticks 0 to 1 and, from the other side, in
@@ -44,10 +44,10 @@ both_words = words_of (
 
 unfoldable pub example : List Row
 example =
-    length-of example_log 40
+    length_of example_log 40
     ∷ read example_log (room 20) (accepted 5 4 5) example_words
     ∷ tidy example_log (room 20) (sevens 34) (success 34) example_words example_tidy
-    ∷ core-numbers 5 4 example_words (full 5) 0 1 (sevens 5) (success 5) (2 ∷ 2 ∷ 2 ∷ 0 ∷ 0 ∷ [])
+    ∷ core_numbers 5 4 example_words (full 5) 0 1 (sevens 5) (success 5) (2 ∷ 2 ∷ 2 ∷ 0 ∷ 0 ∷ [])
     ∷ report 5 4 example_words (full 5) plain (sevens 49) (success 49) (RH 5 4 ++ GR 2 0 1 (badges (0 ∷ 1 ∷ 2 ∷ [])) ++ GR 1 0 2 (badges (0 ∷ 1 ∷ 2 ∷ [])) ++ GR 1 1 3 (badges (3 ∷ 4 ∷ [])) ++ ED 3)
     -- with a least length of three ticks, and with a least order of 2
     ∷ report 5 4 example_words (full 5) (least_of 3 1 2) (sevens 36) (success 36) (RH 5 4 ++ GR 1 0 2 (badges (0 ∷ 1 ∷ 2 ∷ [])) ++ GR 1 1 3 (badges (3 ∷ 4 ∷ [])) ++ ED 2)
@@ -56,18 +56,18 @@ example =
     ∷ report 5 4 example_words (badges (0 ∷ 2 ∷ 4 ∷ [])) plain (sevens 23) (success 23) (RH 5 4 ++ GR 1 0 1 (badges (0 ∷ 2 ∷ [])) ++ ED 1)
     ∷ listing example_log "badges 5 ticks 4 groups 3\norder 2 ticks 0 to 1 badges 0 1 2\norder 1 ticks 0 to 2 badges 0 1 2\norder 1 ticks 1 to 3 badges 3 4\n"
     -- badge 1 in three parts
-    ∷ plan-sum 5 4 example_words (full 5) (badges (1 ∷ [])) 3 4
+    ∷ plan_sum 5 4 example_words (full 5) (badges (1 ∷ [])) 3 4
     ∷ plan 5 4 example_words (full 5) (badges (1 ∷ [])) 3 (sevens 58) (success 58) (PH 5 4 3 (badges (1 ∷ [])) ++ PT 2 0 0 (badges (0 ∷ 1 ∷ 2 ∷ [])) ++ PT 2 1 1 (badges (0 ∷ 1 ∷ 2 ∷ [])) ++ PT 0 2 3 (badges (0 ∷ 1 ∷ 2 ∷ 3 ∷ 4 ∷ [])) ++ ED 3)
     -- and in two: a cut after tick 0 and one after tick 1 have the same sum
-    ∷ plan-ends 5 4 example_words (full 5) (badges (1 ∷ [])) 2 (0 ∷ 3 ∷ [])
+    ∷ plan_ends 5 4 example_words (full 5) (badges (1 ∷ [])) 2 (0 ∷ 3 ∷ [])
     ∷ cut_sum 5 example_words (full 5) (badges (1 ∷ [])) (0 ∷ 3 ∷ []) 2
     ∷ cut_sum 5 example_words (full 5) (badges (1 ∷ [])) (1 ∷ 3 ∷ []) 2
     -- whom badge 0 can have reached from tick 2 on, and from tick 0 on
     ∷ trace 5 4 example_words 0 2 (sevens 10) (success 10) ((2 ∷ 2 ∷ never ∷ never ∷ never ∷ []) ++ (no_source ∷ 0 ∷ no_source ∷ no_source ∷ no_source ∷ []))
     ∷ trace 5 4 example_words 0 0 (sevens 10) (success 10) ((0 ∷ 0 ∷ 0 ∷ never ∷ never ∷ []) ++ (no_source ∷ 0 ∷ 0 ∷ no_source ∷ no_source ∷ []))
     -- two receivers: what one of them heard is the day above; what both heard, and its groups
-    ∷ length-of east_log 40
-    ∷ length-of west_log 34
+    ∷ length_of east_log 40
+    ∷ length_of west_log 34
     ∷ join (east_log ++ west_log) (40 ∷ 34 ∷ []) 1 (room 20) (room 40) (sized 5 4) example_words (replicate (40 * set_words) 0)
     ∷ join (east_log ++ west_log) (40 ∷ 34 ∷ []) 2 (room 20) (room 40) (sized 5 4) both_words (replicate (40 * set_words) 0)
     ∷ report 5 4 both_words (full 5) plain (sevens 49) (success 49) (RH 5 4 ++ GR 2 1 1 (badges (0 ∷ 1 ∷ 2 ∷ [])) ++ GR 1 1 2 (badges (0 ∷ 1 ∷ 2 ∷ [])) ++ GR 1 2 3 (badges (3 ∷ 4 ∷ [])) ++ ED 3)

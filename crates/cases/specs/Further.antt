@@ -7,7 +7,7 @@ use Rattle.sets.specs.Ascii.{ascii}
 use Rattle.thresholds.specs.Ranges.{plain}
 use Rattle.promises.specs.D1.{badges, d1_words}
 use Rattle.cases.specs.RecordBytes.{BH, CT, ED, RH, GR}
-use Rattle.cases.specs.Rows.{Row, read, tidy, write, core-numbers, report, plan, listing}
+use Rattle.cases.specs.Rows.{Row, read, tidy, write, core_numbers, report, plan, listing}
 use Rattle.cases.specs.Table.{sevens, room, less, more, accepted, d1_log, d1_variant, changing_words, empty_log, empty_words, equal_badges}
 
 -- n 4, T 3: 2–3 in ticks 0 to 2, and 0–1, 0–2, 1–2 in tick 1, as a log and in words
@@ -52,18 +52,18 @@ further =
     ∷ write 4 3 d1_words (sevens 35) (success 34) (d1_log ++ 7 ∷ [])
     ∷ write 4 3 d1_words (sevens 33) (refused 9 0) (sevens 33)
     -- core numbers: a byte after the answer stays, and 3 bytes are too few
-    ∷ core-numbers 4 3 d1_words (full 4) 0 1 (sevens 5) (success 4) (2 ∷ 2 ∷ 2 ∷ 1 ∷ 7 ∷ [])
-    ∷ core-numbers 4 3 d1_words (full 4) 0 1 (sevens 3) (refused 9 0) (sevens 3)
+    ∷ core_numbers 4 3 d1_words (full 4) 0 1 (sevens 5) (success 4) (2 ∷ 2 ∷ 2 ∷ 1 ∷ 7 ∷ [])
+    ∷ core_numbers 4 3 d1_words (full 4) 0 1 (sevens 3) (refused 9 0) (sevens 3)
     -- no spans: the first tick after the last, and a last tick of T; both come before 9
-    ∷ core-numbers 4 3 d1_words (full 4) 2 1 (sevens 3) (refused 12 0) (sevens 3)
-    ∷ core-numbers 4 3 d1_words (full 4) 0 3 (sevens 3) (refused 12 0) (sevens 3)
+    ∷ core_numbers 4 3 d1_words (full 4) 2 1 (sevens 3) (refused 12 0) (sevens 3)
+    ∷ core_numbers 4 3 d1_words (full 4) 0 3 (sevens 3) (refused 12 0) (sevens 3)
     -- words that are no day, too few words and no ticks come before that
-    ∷ core-numbers 4 3 (room 12) (full 4) 2 1 (sevens 3) (refused 11 0) (sevens 3)
-    ∷ core-numbers 4 3 (less 12) (full 4) 2 1 (sevens 3) (refused 8 0) (sevens 3)
-    ∷ core-numbers 4 0 [] (full 4) 2 1 [] (refused 10 0) []
+    ∷ core_numbers 4 3 (room 12) (full 4) 2 1 (sevens 3) (refused 11 0) (sevens 3)
+    ∷ core_numbers 4 3 (less 12) (full 4) 2 1 (sevens 3) (refused 8 0) (sevens 3)
+    ∷ core_numbers 4 0 [] (full 4) 2 1 [] (refused 10 0) []
     -- partners that change tick by tick: in one tick, and throughout both
-    ∷ core-numbers 3 2 changing_words (full 3) 0 0 (sevens 3) (success 3) (1 ∷ 1 ∷ 0 ∷ [])
-    ∷ core-numbers 3 2 changing_words (full 3) 0 1 (sevens 3) (success 3) (0 ∷ 0 ∷ 0 ∷ [])
+    ∷ core_numbers 3 2 changing_words (full 3) 0 0 (sevens 3) (success 3) (1 ∷ 1 ∷ 0 ∷ [])
+    ∷ core_numbers 3 2 changing_words (full 3) 0 1 (sevens 3) (success 3) (0 ∷ 0 ∷ 0 ∷ [])
     -- groups come by first tick and then last tick, though this day's group of order 2 lies inside the span of the other
     ∷ read nested_log (room 12) (accepted 4 3 4) nested_words
     ∷ report 4 3 nested_words (full 4) plain (sevens 36) (success 36) (RH 4 3 ++ GR 1 0 2 (badges (2 ∷ 3 ∷ [])) ++ GR 2 1 1 (badges (0 ∷ 1 ∷ 2 ∷ [])) ++ ED 2)

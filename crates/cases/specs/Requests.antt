@@ -10,7 +10,7 @@ use Rattle.promises.specs.Ties.{ties_words}
 use Rattle.promises.specs.Circles.{apart_words, leaving_words, crossing_words}
 use Rattle.promises.specs.Tracing.{rising_words, falling_words, at_once_words, two_sources_words}
 use Rattle.cases.specs.RecordBytes.{BH, CT, ED, RH, GR, PH, PT}
-use Rattle.cases.specs.Rows.{Row, join, tidy, trace, core-numbers, report, plan, plan-ends, cut_sum, listing, length-of}
+use Rattle.cases.specs.Rows.{Row, join, tidy, trace, core_numbers, report, plan, plan_ends, cut_sum, listing, length_of}
 use Rattle.cases.specs.Table.{sevens, room, less, more, sized, d1_log, empty_log, empty_words, equal_badges}
 
 -- reports of D1 that keep one of its two groups, "order 2, 0 to 1, {0,1,2}" and "order 1, 0 to 2, {2,3}", and none
@@ -75,7 +75,7 @@ requested =
     ∷ report 4 3 d1_words (full 4) (least_of 1 1 3) (sevens 23) (success 23) triple
     -- "domination is judged before the filter": order 1 on 0 to 1 has a core of four, but order 1 on 0 to 2 has one, too
     ∷ report 4 3 d1_words (full 4) (least_of 1 1 4) (sevens 10) (success 10) nobody
-    ∷ length-of nobody 10
+    ∷ length_of nobody 10
     -- the ranges do not depend on the day
     ∷ report 4 3 d1_words (full 4) (least_of 96 127 128) (sevens 10) (success 10) nobody
     -- the buffer is measured against what is kept: a byte less than the plain report, and a byte less than this one
@@ -102,21 +102,21 @@ requested =
     ∷ tidy (BH 2 3 ++ CT 0 1 0 2 ++ ED 1) (less 6) (sevens 15) (refused 8 0) (less 6) (sevens 15)
     ∷ tidy (BH 2 3 ++ CT 0 1 0 2 ++ ED 1) (room 6) (sevens 15) (refused 9 0) (words_of (2 ∷ 1 ∷ 2 ∷ 1 ∷ 2 ∷ 1 ∷ [])) (sevens 15)
     -- "Three. .. For D1, query {2} and h 2 the ends are 0 and 2."
-    ∷ plan-ends 4 3 d1_words (full 4) (badges (2 ∷ [])) 2 (0 ∷ 2 ∷ [])
+    ∷ plan_ends 4 3 d1_words (full 4) (badges (2 ∷ [])) 2 (0 ∷ 2 ∷ [])
     ∷ plan 4 3 d1_words (full 4) (badges (2 ∷ [])) 2 (sevens 45) (success 45) (PH 4 3 2 (badges (2 ∷ [])) ++ PT 2 0 0 (badges (0 ∷ 1 ∷ 2 ∷ [])) ++ PT 1 1 2 (badges (2 ∷ 3 ∷ [])) ++ ED 2)
     -- where no badge met another, every cutting has the sum 0, and the first has all parts but the last of one tick
-    ∷ plan-ends 3 5 (replicate (15 * set_words) 0) (full 3) (badges (0 ∷ [])) 3 (0 ∷ 1 ∷ 4 ∷ [])
+    ∷ plan_ends 3 5 (replicate (15 * set_words) 0) (full 3) (badges (0 ∷ [])) 3 (0 ∷ 1 ∷ 4 ∷ [])
     -- "compared number by number", from the first on: 0, 3, 4 and 1, 2, 4 have the same sum, and so have 2, 3, 4
-    ∷ plan-ends 3 5 ties_words (full 3) (badges (0 ∷ [])) 3 (0 ∷ 3 ∷ 4 ∷ [])
+    ∷ plan_ends 3 5 ties_words (full 3) (badges (0 ∷ [])) 3 (0 ∷ 3 ∷ 4 ∷ [])
     ∷ cut_sum 3 ties_words (full 3) (badges (0 ∷ [])) (0 ∷ 3 ∷ 4 ∷ []) 3
     ∷ cut_sum 3 ties_words (full 3) (badges (0 ∷ [])) (1 ∷ 2 ∷ 4 ∷ []) 3
     ∷ cut_sum 3 ties_words (full 3) (badges (0 ∷ [])) (2 ∷ 3 ∷ 4 ∷ []) 3
     -- "Four. .. A contact counts if at least q receivers heard it": one of two misses 0–1; words after the day and work words after those of each log stay
-    ∷ length-of missing 28
+    ∷ length_of missing 28
     ∷ join (d1_log ++ missing) (34 ∷ 28 ∷ []) 1 (room 12) (room 24) (sized 4 3) d1_words (replicate (24 * set_words) 0)
     ∷ join (d1_log ++ missing) (34 ∷ 28 ∷ []) 2 (more 12 1) (more 24 2) (sized 4 3) (missing_words ++ 7 ∷ []) (replicate (24 * set_words) 0 ++ 7 ∷ 7 ∷ [])
     -- "a receiver that logs it twice counts once": one that says 2–3 twice, with one that says nothing, and with D1's
-    ∷ length-of repeating 22
+    ∷ length_of repeating 22
     ∷ join (repeating ++ empty_log) (22 ∷ 10 ∷ []) 1 (room 12) (room 24) (sized 4 3) repeating_words (replicate (24 * set_words) 0)
     ∷ join (repeating ++ empty_log) (22 ∷ 10 ∷ []) 2 (room 12) (room 24) (sized 4 3) empty_words (replicate (24 * set_words) 0)
     ∷ join (repeating ++ d1_log) (22 ∷ 34 ∷ []) 2 (room 12) (room 24) (sized 4 3) repeating_words (replicate (24 * set_words) 0)
@@ -143,10 +143,10 @@ requested =
     ∷ join (d1_log ++ missing) (34 ∷ 28 ∷ []) 1 (less 12) (room 24) (refused 8 0) (less 12) (room 24)
     ∷ join (d1_log ++ missing) (34 ∷ 28 ∷ []) 1 (room 12) (less 24) (refused 8 0) (room 12) (less 24)
     -- "Six. .. all cores are cores among those badges, others have core number 0": D1 without badge 2, and without badge 3
-    ∷ core-numbers 4 3 d1_words without2 0 1 (sevens 4) (success 4) (1 ∷ 1 ∷ 0 ∷ 0 ∷ [])
-    ∷ core-numbers 4 3 d1_words without2 0 2 (sevens 4) (success 4) (0 ∷ 0 ∷ 0 ∷ 0 ∷ [])
-    ∷ core-numbers 4 3 d1_words without3 0 1 (sevens 4) (success 4) (2 ∷ 2 ∷ 2 ∷ 0 ∷ [])
-    ∷ core-numbers 4 3 d1_words without3 0 2 (sevens 4) (success 4) (0 ∷ 0 ∷ 0 ∷ 0 ∷ [])
+    ∷ core_numbers 4 3 d1_words without2 0 1 (sevens 4) (success 4) (1 ∷ 1 ∷ 0 ∷ 0 ∷ [])
+    ∷ core_numbers 4 3 d1_words without2 0 2 (sevens 4) (success 4) (0 ∷ 0 ∷ 0 ∷ 0 ∷ [])
+    ∷ core_numbers 4 3 d1_words without3 0 1 (sevens 4) (success 4) (2 ∷ 2 ∷ 2 ∷ 0 ∷ [])
+    ∷ core_numbers 4 3 d1_words without3 0 2 (sevens 4) (success 4) (0 ∷ 0 ∷ 0 ∷ 0 ∷ [])
     -- domination is judged among them alone: the first of these records is none of the full report's
     ∷ report 4 3 d1_words without2 plain (sevens 23) (success 23) (RH 4 3 ++ GR 1 0 1 (badges (0 ∷ 1 ∷ [])) ++ ED 1)
     ∷ report 4 3 d1_words without3 plain (sevens 23) (success 23) triple
@@ -155,17 +155,17 @@ requested =
     ∷ plan 4 3 d1_words without3 (badges (2 ∷ [])) 1 (sevens 32) (success 32) (PH 4 3 1 (badges (2 ∷ [])) ++ PT 0 0 2 without3 ++ ED 1)
     ∷ plan 4 3 d1_words (badges (3 ∷ [])) (badges []) 1 (sevens 32) (success 32) (PH 4 3 1 (badges []) ++ PT 0 0 2 (badges (3 ∷ [])) ++ ED 1)
     -- "20, the set is empty or has a badge of n or more", with good ones too
-    ∷ core-numbers 4 3 d1_words (badges []) 0 1 (sevens 4) (refused 20 0) (sevens 4)
-    ∷ core-numbers 4 3 d1_words (badges (4 ∷ [])) 0 1 (sevens 4) (refused 20 0) (sevens 4)
+    ∷ core_numbers 4 3 d1_words (badges []) 0 1 (sevens 4) (refused 20 0) (sevens 4)
+    ∷ core_numbers 4 3 d1_words (badges (4 ∷ [])) 0 1 (sevens 4) (refused 20 0) (sevens 4)
     ∷ report 4 3 d1_words (badges []) plain (sevens 36) (refused 20 0) (sevens 36)
     ∷ report 4 3 d1_words (badges (0 ∷ 1 ∷ 2 ∷ 3 ∷ 4 ∷ [])) plain (sevens 36) (refused 20 0) (sevens 36)
     ∷ plan 4 3 d1_words (badges []) (badges []) 1 (sevens 32) (refused 20 0) (sevens 32)
     ∷ plan 4 3 d1_words (badges (2 ∷ 4 ∷ [])) (badges (2 ∷ [])) 1 (sevens 32) (refused 20 0) (sevens 32)
     -- "directly after 11 and so before 12, 13 and 17"
-    ∷ core-numbers 4 3 d1_words (badges []) 2 1 (sevens 3) (refused 20 0) (sevens 3)
+    ∷ core_numbers 4 3 d1_words (badges []) 2 1 (sevens 3) (refused 20 0) (sevens 3)
     ∷ report 4 3 d1_words (badges []) (least_of 0 1 2) (sevens 3) (refused 20 0) (sevens 3)
     ∷ plan 4 3 d1_words (badges []) (badges (4 ∷ [])) 4 (sevens 3) (refused 20 0) (sevens 3)
-    ∷ core-numbers 4 3 (room 12) (badges []) 2 1 (sevens 3) (refused 11 0) (sevens 3)
+    ∷ core_numbers 4 3 (room 12) (badges []) 2 1 (sevens 3) (refused 11 0) (sevens 3)
     ∷ report 4 3 (less 12) (badges []) (least_of 0 1 2) (sevens 3) (refused 8 0) (sevens 3)
     ∷ plan 4 0 [] (badges []) (badges (4 ∷ [])) 4 (sevens 3) (refused 10 0) (sevens 3)
     -- "21, the query has a badge outside it, between 13 and 14"
@@ -195,7 +195,7 @@ requested =
     ∷ listing (BH 6 1 ++ CT 0 1 0 0 ++ CT 0 2 0 0 ++ CT 1 2 0 0 ++ CT 3 4 0 0 ++ CT 3 5 0 0 ++ CT 4 5 0 0 ++ ED 6) "badges 6 ticks 1 groups 2\norder 2 ticks 0 to 0 badges 0 1 2\norder 2 ticks 0 to 0 badges 3 4 5\n"
     -- "Members in plans are not split", and core numbers are those of the cores
     ∷ plan 6 1 apart_words (full 6) (badges (0 ∷ [])) 1 (sevens 32) (success 32) (PH 6 1 1 (badges (0 ∷ [])) ++ PT 2 0 0 (full 6) ++ ED 1)
-    ∷ core-numbers 6 1 apart_words (full 6) 0 0 (sevens 6) (success 6) (replicate 6 2)
+    ∷ core_numbers 6 1 apart_words (full 6) 0 0 (sevens 6) (success 6) (replicate 6 2)
     -- "Eight. .. it finds for each badge the earliest tick in which it can have been reached, and 255 if never; the index has s": D1 from badge 3 in tick 0 and
     -- in tick 2, and from badge 0 in tick 1; "ticks first", then the sources
     ∷ trace 4 3 d1_words 3 0 (sevens 8) (success 8) ((1 ∷ 1 ∷ 0 ∷ 0 ∷ []) ++ (2 ∷ 2 ∷ 3 ∷ no_source ∷ []))

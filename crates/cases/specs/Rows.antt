@@ -17,8 +17,8 @@ use Rattle.sets.specs.Ascii.{ascii}
 use Rattle.text.specs.Listing.{listing as listed}
 
 -- A row has a call's arguments, what it answers, and what it leaves in each slice that was lent, in this order: `words`, `work` and `buffer` are
--- lent, `words'`, `work'` and `buffer'` are left; `review` is the set of badges under review. `plan-sum` and `plan-ends` have the arguments of a plan, and the sum of its scores or its part ends; `cut_sum` has a
--- list of part ends and the sum of scores of the parts that it cuts; `listing` has a log and the text that the listing program writes; `length-of`
+-- lent, `words'`, `work'` and `buffer'` are left; `review` is the set of badges under review. `plan_sum` and `plan_ends` have the arguments of a plan, and the sum of its scores or its part ends; `cut_sum` has a
+-- list of part ends and the sum of scores of the parts that it cuts; `listing` has a log and the text that the listing program writes; `length_of`
 -- has bytes and their number.
 pub data Row : Type 0 where
   read : (log words : List ℕ) (answer : Outcome Values) (words' : List ℕ) → Row
@@ -26,14 +26,14 @@ pub data Row : Type 0 where
   tidy : (log words buffer : List ℕ) (answer : Outcome ℕ) (words' buffer' : List ℕ) → Row
   write : (n T : ℕ) (words buffer : List ℕ) (answer : Outcome ℕ) (buffer' : List ℕ) → Row
   trace : (n T : ℕ) (words : List ℕ) (index s : ℕ) (buffer : List ℕ) (answer : Outcome ℕ) (buffer' : List ℕ) → Row
-  core-numbers : (n T : ℕ) (words : List ℕ) (review first last : ℕ) (buffer : List ℕ) (answer : Outcome ℕ) (buffer' : List ℕ) → Row
+  core_numbers : (n T : ℕ) (words : List ℕ) (review first last : ℕ) (buffer : List ℕ) (answer : Outcome ℕ) (buffer' : List ℕ) → Row
   report : (n T : ℕ) (words : List ℕ) (review : ℕ) (least : Thresholds) (buffer : List ℕ) (answer : Outcome ℕ) (buffer' : List ℕ) → Row
   plan : (n T : ℕ) (words : List ℕ) (review query h : ℕ) (buffer : List ℕ) (answer : Outcome ℕ) (buffer' : List ℕ) → Row
-  plan-sum : (n T : ℕ) (words : List ℕ) (review query h sum : ℕ) → Row
-  plan-ends : (n T : ℕ) (words : List ℕ) (review query h : ℕ) (ends : List ℕ) → Row
+  plan_sum : (n T : ℕ) (words : List ℕ) (review query h sum : ℕ) → Row
+  plan_ends : (n T : ℕ) (words : List ℕ) (review query h : ℕ) (ends : List ℕ) → Row
   cut_sum : (n : ℕ) (words : List ℕ) (review query : ℕ) (ends : List ℕ) (sum : ℕ) → Row
   listing : (log : List ℕ) (shown : String) → Row
-  length-of : (bytes : List ℕ) (size : ℕ) → Row
+  length_of : (bytes : List ℕ) (size : ℕ) → Row
 
 -- what a row says
 unfoldable pub Holds : Row → Type 0
@@ -42,14 +42,14 @@ Holds (join logs lengths q words work answer words' work') = join_of logs length
 Holds (tidy log words buffer answer words' buffer') = tidy_of log words buffer ≡ record { answer = answer; words = words'; buffer = buffer' }
 Holds (write n T words buffer answer buffer') = write_of n T words buffer ≡ record { answer = answer; buffer = buffer' }
 Holds (trace n T words index s buffer answer buffer') = trace_of n T words index s buffer ≡ record { answer = answer; buffer = buffer' }
-Holds (core-numbers n T words review first last buffer answer buffer') = core_numbers_of n T words review first last buffer ≡ record { answer = answer; buffer = buffer' }
+Holds (core_numbers n T words review first last buffer answer buffer') = core_numbers_of n T words review first last buffer ≡ record { answer = answer; buffer = buffer' }
 Holds (report n T words review least buffer answer buffer') = report_of n T words review least buffer ≡ record { answer = answer; buffer = buffer' }
 Holds (plan n T words review query h buffer answer buffer') = plan_of n T words review query h buffer ≡ record { answer = answer; buffer = buffer' }
-Holds (plan-sum n T words review query h sum) = sum_of_orders (parts_of n T words review query h) ≡ sum
-Holds (plan-ends n T words review query h ends) = part_ends (parts_of n T words review query h) ≡ ends
+Holds (plan_sum n T words review query h sum) = sum_of_orders (parts_of n T words review query h) ≡ sum
+Holds (plan_ends n T words review query h ends) = part_ends (parts_of n T words review query h) ≡ ends
 Holds (cut_sum n words review query ends sum) = sum_of_orders (parts_from n words review query 0 ends) ≡ sum
 Holds (listing log shown) = listed log ≡ ascii shown
-Holds (length-of bytes size) = length bytes ≡ size
+Holds (length_of bytes size) = length bytes ≡ size
 
 -- every row of a table holds
 pub record AllHold (table : List Row) : Type 0 where

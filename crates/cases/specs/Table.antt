@@ -9,7 +9,7 @@ use Rattle.series.specs.Series.{Size}
 use Rattle.thresholds.specs.Ranges.{plain}
 use Rattle.promises.specs.D1.{badges, d1_words}
 use Rattle.cases.specs.RecordBytes.{BH, CT, ED, RH, GR, PH, PT}
-use Rattle.cases.specs.Rows.{Row, read, tidy, write, core-numbers, report, plan, plan-sum, cut_sum, length-of}
+use Rattle.cases.specs.Rows.{Row, read, tidy, write, core_numbers, report, plan, plan_sum, cut_sum, length_of}
 
 -- lent memory of so many bytes or words, all 7
 unfoldable pub sevens : ℕ → List ℕ
@@ -71,44 +71,44 @@ starred =
     read d1_log (room 12) (accepted 4 3 4) d1_words
     -- "* Its tidy log has 34 bytes and tidies to itself."
     ∷ write 4 3 d1_words (sevens 34) (success 34) d1_log
-    ∷ length-of d1_log 34
+    ∷ length_of d1_log 34
     ∷ tidy d1_log (room 12) (sevens 34) (success 34) d1_words d1_log
     -- "With 0–1 given instead as last records 1–0 tick 1 and 0–1 tick 0 (40 bytes, count 5) it tidies to the same 34."
-    ∷ length-of d1_variant 40
+    ∷ length_of d1_variant 40
     ∷ tidy d1_variant (room 12) (sevens 34) (success 34) d1_words d1_log
     -- "* Core numbers, span 0 to 1: 2 2 2 1."
-    ∷ core-numbers 4 3 d1_words (full 4) 0 1 (sevens 4) (success 4) (2 ∷ 2 ∷ 2 ∷ 1 ∷ [])
+    ∷ core_numbers 4 3 d1_words (full 4) 0 1 (sevens 4) (success 4) (2 ∷ 2 ∷ 2 ∷ 1 ∷ [])
     -- "* Span 0 to 2: 0 0 1 1."
-    ∷ core-numbers 4 3 d1_words (full 4) 0 2 (sevens 4) (success 4) (0 ∷ 0 ∷ 1 ∷ 1 ∷ [])
+    ∷ core_numbers 4 3 d1_words (full 4) 0 2 (sevens 4) (success 4) (0 ∷ 0 ∷ 1 ∷ 1 ∷ [])
     -- "* Report: order 2, 0 to 1, {0,1,2}; order 1, 0 to 2, {2,3}. 36 bytes; a buffer of 35 gets 9."
     ∷ report 4 3 d1_words (full 4) plain (sevens 36) (success 36) d1_report
-    ∷ length-of d1_report 36
+    ∷ length_of d1_report 36
     ∷ report 4 3 d1_words (full 4) plain (sevens 35) (refused 9 0) (sevens 35)
     -- "* Query {2}: sum 1 for h 1,"
-    ∷ plan-sum 4 3 d1_words (full 4) (badges (2 ∷ [])) 1 1
+    ∷ plan_sum 4 3 d1_words (full 4) (badges (2 ∷ [])) 1 1
     ∷ plan 4 3 d1_words (full 4) (badges (2 ∷ [])) 1 (sevens 32) (success 32) (PH 4 3 1 (badges (2 ∷ [])) ++ PT 1 0 2 (badges (2 ∷ 3 ∷ [])) ++ ED 1)
     -- "3 for h 2 (cut after tick 0 or tick 1),"
-    ∷ plan-sum 4 3 d1_words (full 4) (badges (2 ∷ [])) 2 3
+    ∷ plan_sum 4 3 d1_words (full 4) (badges (2 ∷ [])) 2 3
     ∷ cut_sum 4 d1_words (full 4) (badges (2 ∷ [])) (0 ∷ 2 ∷ []) 3
     ∷ cut_sum 4 d1_words (full 4) (badges (2 ∷ [])) (1 ∷ 2 ∷ []) 3
     -- "5 for h 3."
-    ∷ plan-sum 4 3 d1_words (full 4) (badges (2 ∷ [])) 3 5
+    ∷ plan_sum 4 3 d1_words (full 4) (badges (2 ∷ [])) 3 5
     ∷ plan 4 3 d1_words (full 4) (badges (2 ∷ [])) 3 (sevens 58) (success 58) (PH 4 3 3 (badges (2 ∷ [])) ++ PT 2 0 0 (badges (0 ∷ 1 ∷ 2 ∷ [])) ++ PT 2 1 1 (badges (0 ∷ 1 ∷ 2 ∷ [])) ++ PT 1 2 2 (badges (2 ∷ 3 ∷ [])) ++ ED 3)
     -- "h 4 gets 14."
     ∷ plan 4 3 d1_words (full 4) (badges (2 ∷ [])) 4 (sevens 71) (refused 14 0) (sevens 71)
     -- "* Query {0}, h 1: score 0, all four badges."
     ∷ plan 4 3 d1_words (full 4) (badges (0 ∷ [])) 1 (sevens 32) (success 32) (PH 4 3 1 (badges (0 ∷ [])) ++ PT 0 0 2 (badges (0 ∷ 1 ∷ 2 ∷ 3 ∷ [])) ++ ED 1)
     -- "* Query {0,3}, h 3: sum 2."
-    ∷ plan-sum 4 3 d1_words (full 4) (badges (0 ∷ 3 ∷ [])) 3 2
+    ∷ plan_sum 4 3 d1_words (full 4) (badges (0 ∷ 3 ∷ [])) 3 2
     ∷ plan 4 3 d1_words (full 4) (badges (0 ∷ 3 ∷ [])) 3 (sevens 58) (success 58) (PH 4 3 3 (badges (0 ∷ 3 ∷ [])) ++ PT 1 0 0 (badges (0 ∷ 1 ∷ 2 ∷ 3 ∷ [])) ++ PT 1 1 1 (badges (0 ∷ 1 ∷ 2 ∷ 3 ∷ [])) ++ PT 0 2 2 (badges (0 ∷ 1 ∷ 2 ∷ 3 ∷ [])) ++ ED 3)
     -- "* n 3, T 2, 0–1 in tick 0, 0–2 in tick 1: groups of order 1 at 0 to 0 {0,1} and 1 to 1 {0,2}, none at 0 to 1."
     ∷ read changing_log (room 6) (accepted 3 2 2) changing_words
     ∷ report 3 2 changing_words (full 3) plain (sevens 36) (success 36) (RH 3 2 ++ GR 1 0 0 (badges (0 ∷ 1 ∷ [])) ++ GR 1 1 1 (badges (0 ∷ 2 ∷ [])) ++ ED 2)
     -- "* A log without CT: 10 bytes, a report of 10 bytes."
-    ∷ length-of empty_log 10
+    ∷ length_of empty_log 10
     ∷ read empty_log (room 12) (accepted 4 3 0) empty_words
     ∷ report 4 3 empty_words (full 4) plain (sevens 10) (success 10) (RH 4 3 ++ ED 0)
-    ∷ length-of (RH 4 3 ++ ED 0) 10
+    ∷ length_of (RH 4 3 ++ ED 0) 10
     -- "* Empty file: 1 at offset 0."
     ∷ read [] (room 12) (refused 1 0) (room 12)
     ∷ tidy [] (room 12) (sevens 34) (refused 1 0) (room 12) (sevens 34)

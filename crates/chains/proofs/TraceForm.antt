@@ -16,7 +16,7 @@ use Rattle.records.specs.Limits.{max_ticks}
 use Rattle.records.proofs.WithinLimits.{limits_of}
 use Rattle.days.specs.Days.{neighbours}
 use Rattle.chains.specs.Chains.{Contact, Chain, Earliest}
-use Rattle.chains.specs.Traces.{never, no_source, tick_in, source_in, Other, PassesOn, as-index, as-reached, IsSource, IsTrace}
+use Rattle.chains.specs.Traces.{never, no_source, tick_in, source_in, Other, PassesOn, as_index, as_reached, IsSource, IsTrace}
 use Rattle.chains.specs.Sweep.{source_from, passing, newly, tick_after, source_after, trace_bytes}
 use Rattle.chains.specs.Judging.{StartOfDay}
 use Rattle.chains.proofs.TicksFirst.{first-length, tick-at, source-at, first-bytes}
@@ -35,8 +35,8 @@ source-by {Meet} {index} {s} {t} {u} {v} f g same r = record {
 }
   where
     other : {w : ℕ} (f g : ℕ → ℕ) → f w ≡ g w → PassesOn index s f t w → PassesOn index s g t w
-    other f g e (as-index p h) = as-index p h
-    other f g e (as-reached h) = as-reached (omega arith)
+    other f g e (as_index p h) = as_index p h
+    other f g e (as_reached h) = as_reached (omega arith)
 
 module _ (n T : ℕ) (ws : List ℕ) (index s : ℕ) (d : StartOfDay n T ws index s) where
   abbrev rows : ℕ → ℕ → ℕ
@@ -99,14 +99,14 @@ module _ (n T : ℕ) (ws : List ℕ) (index s : ℕ) (d : StartOfDay n T ws inde
 
   -- who passes on in tick s + j, by the ticks that the sweep found
   on-passes : (j w : ℕ) → s + j < T → On j w → PassesOn index s tick (s + j) w
-  on-passes j w l i = by_cases (ℕ_discrete w index) (λ e. as-index e (omega arith)) (λ ne. go ne (found w ne) (passes-by n T ws index s d j w (omega arith) i))
+  on-passes j w l i = by_cases (ℕ_discrete w index) (λ e. as_index e (omega arith)) (λ ne. go ne (found w ne) (passes-by n T ws index s d j w (omega arith) i))
     where
       go : (w ≡ index → ⊥) → Arrival n rows index s (T - s) w → (w ≡ index) ⊎ Before n T ws index s d w (s + j) → PassesOn index s tick (s + j) w
       go ne a (inl e) = absurd (ne e)
       go ne (in-tick k h m e f) (inr b) =
           let x = (arrives w k ne (omega arith) m).soonest b.tick b.chain in
           let y = b.sooner in
-          as-reached (omega arith)
+          as_reached (omega arith)
       go ne (in-none out e f) (inr b) = absurd (none-arrives w out b.tick b.chain)
 
   passes_on : (j w : ℕ) → s + j < T → PassesOn index s tick (s + j) w → On j w
@@ -114,10 +114,10 @@ module _ (n T : ℕ) (ws : List ℕ) (index s : ℕ) (d : StartOfDay n T ws inde
   passes_on j w l p = by_cases (ℕ_discrete w index) (λ e. subst (On j) (sym e) (index-passes n rows index s j)) (λ ne. go ne p (found w ne))
     where
       go : (w ≡ index → ⊥) → PassesOn index s tick (s + j) w → Arrival n rows index s (T - s) w → On j w
-      go ne (as-index e h) a = absurd (ne e)
-      go ne (as-reached h) (in-tick k g m e f) =
+      go ne (as_index e h) a = absurd (ne e)
+      go ne (as_reached h) (in-tick k g m e f) =
           passing-later n rows index s (suc k) j w (omega arith) (of-difference (passing n rows index s (suc k)) (passing n rows index s k) w m).0
-      go ne (as-reached h) (in-none out e f) = absurd (let w = few in omega arith)
+      go ne (as_reached h) (in-none out e f) = absurd (let w = few in omega arith)
 
   -- the source of a badge that is first reached in tick s + j
   source_is : (u j : ℕ) → u < n → s + j < T → In (newly n rows index s j) u

@@ -27,7 +27,7 @@ module _ {Meet Met : ℕ → ℕ → ℕ → Type 0} (there : (t u v : ℕ) → 
     reached = λ u o h. earliest-map (x.reached u o h);
     unreached = λ u o. let r = x.unreached u o in (λ e t c. r.0 e t (chain-map back c), λ f. r.1 (λ t c. f t (chain-map there c)));
     source = λ u o h. source-map (x.source u o h);
-    back = λ u o h. let b = x.back u o h in record { chain = chain-map there b.chain; by-sources = by-sources-map there n l b.chain b.by-sources };
+    back = λ u o h. let b = x.back u o h in record { chain = chain-map there b.chain; by_sources = by-sources-map there n l b.chain b.by_sources };
     unreached = x.unreached;
   }
 

@@ -25,8 +25,8 @@ pub record Other (n index u : ℕ) : Type 0 where
 
 -- u may pass on in tick t: "the index passes on from s, every other badge only after its own tick"
 pub data PassesOn (index s : ℕ) (tick : ℕ → ℕ) (t u : ℕ) : Type 0 where
-  as-index : u ≡ index → s ≤ t → PassesOn index s tick t u
-  as-reached : tick u < t → PassesOn index s tick t u
+  as_index : u ≡ index → s ≤ t → PassesOn index s tick t u
+  as_reached : tick u < t → PassesOn index s tick t u
 
 -- v is the source of u, which is reached in tick t: "the smallest badge in contact with it in that tick that may pass on by then"
 pub record IsSource (Meet : ℕ → ℕ → ℕ → Type 0) (index s : ℕ) (tick : ℕ → ℕ) (t u v : ℕ) : Type 0 where
@@ -42,7 +42,7 @@ BySources n l (next {r} {t} {u} {v} c h m) = BySources n l c × (tick_in l v ≡
 -- the sources followed back from u are a chain to the index
 pub record FollowedBack (Meet : ℕ → ℕ → ℕ → Type 0) (n index s : ℕ) (l : List ℕ) (u : ℕ) : Type 0 where
   pub chain : Chain Meet index s u (tick_in l u)
-  pub by-sources : BySources n l chain
+  pub by_sources : BySources n l chain
 
 -- the trace of n badges from the index and tick s on, over any contacts:
 pub record IsTrace (Meet : ℕ → ℕ → ℕ → Type 0) (n index s : ℕ) (l : List ℕ) : Type 0 where

@@ -40,11 +40,11 @@ counted-le least (c ∷ cs) = omega (arith, length-append (keep_if (leb least (s
 -- What is left is a subset of s, and the circles counted with those of what is left are those of s.
 pub record Counts (rows : ℕ → ℕ) (s least all large left : ℕ) : Type 0 where
   pub within : Sub left s
-  pub all-so-far : all + length (circles rows left) ≡ length (circles rows s)
-  pub large-so-far : large + length (at_least least (circles rows left)) ≡ length (at_least least (circles rows s))
+  pub all_so_far : all + length (circles rows left) ≡ length (circles rows s)
+  pub large_so_far : large + length (at_least least (circles rows left)) ≡ length (at_least least (circles rows s))
 
 pub count-start : (rows : ℕ → ℕ) (s least : ℕ) → Counts rows s least 0 0 s
-count-start rows s least = record { within = sub_refl s; all-so-far = omega arith; large-so-far = omega arith }
+count-start rows s least = record { within = sub_refl s; all_so_far = omega arith; large_so_far = omega arith }
 
 module _ {rows : ℕ → ℕ} {s least all large left : ℕ} (w : s < 2 ^ capacity) (h : Counts rows s least all large left) where
   left_lt : left < 2 ^ capacity
@@ -53,15 +53,15 @@ module _ {rows : ℕ → ℕ} {s least all large left : ℕ} (w : s < 2 ^ capaci
   -- there are few of them
   pub count-few : (all ≤ capacity) × (large ≤ capacity)
   count-few = let few : length (circles rows s) ≤ capacity = omega (arith, circles-few rows s w, size-le capacity s w) in
-      (omega (arith, h.all-so-far), omega (arith, h.large-so-far, counted-le least (circles rows s)))
+      (omega (arith, h.all_so_far), omega (arith, h.large_so_far, counted-le least (circles rows s)))
 
   pub count-more : 0 < left → Counts rows s least (all + 1) (large + length (at_least least (first_circle rows left ∷ []))) (difference left (first_circle rows left))
   count-more p =
       let e = circles-more rows left left_lt p in
       record {
         within = sub_trans (rest-within left _) h.within;
-        all-so-far = omega (arith, h.all-so-far, ap length e);
-        large-so-far = omega (arith, h.large-so-far, ap (λ (l : List ℕ). length (at_least least l)) e, counted-more least (first_circle rows left) (circles rows (difference left (first_circle rows left))));
+        all_so_far = omega (arith, h.all_so_far, ap length e);
+        large_so_far = omega (arith, h.large_so_far, ap (λ (l : List ℕ). length (at_least least l)) e, counted-more least (first_circle rows left) (circles rows (difference left (first_circle rows left))));
       }
 
   -- fewer are left
@@ -73,7 +73,7 @@ module _ {rows : ℕ → ℕ} {s least all large left : ℕ} (w : s < 2 ^ capaci
   count-end e =
       let none : length (circles rows left) ≡ 0 = rw (e, circles-none rows) refl in
       let few : length (at_least least (circles rows left)) ≡ 0 = omega (arith, counted-le least (circles rows left)) in
-      (omega (arith, h.all-so-far), omega (arith, h.large-so-far))
+      (omega (arith, h.all_so_far), omega (arith, h.large_so_far))
 
 -- where the test finds some left, there are some
 pub some_left : {left : ℕ} {empty : Bool} → empty ≡ eqb left 0 → not empty ≡ true → 0 < left

@@ -38,19 +38,19 @@ module _ (log ws : List ℕ) (rs : List Record) (e : judge log ≡ success rs) w
 
 -- one of the three is the case
 pub data Case (log ws : List ℕ) : Type 0 where
-  log-refused : (number offset : ℕ) → judge log ≡ refused number offset → Case log ws
-  words-few : (rs : List Record) → judge log ≡ success rs → length ws < words_for (badges_of rs) (ticks_of rs) → Case log ws
-  words-enough : (rs : List Record) → judge log ≡ success rs → words_for (badges_of rs) (ticks_of rs) ≤ length ws → Case log ws
+  log_refused : (number offset : ℕ) → judge log ≡ refused number offset → Case log ws
+  words_few : (rs : List Record) → judge log ≡ success rs → length ws < words_for (badges_of rs) (ticks_of rs) → Case log ws
+  words_enough : (rs : List Record) → judge log ≡ success rs → words_for (badges_of rs) (ticks_of rs) ≤ length ws → Case log ws
 
 pub case-of : (log ws : List ℕ) → Case log ws
 case-of log ws = go (judge log) refl
   where
     words : (rs : List Record) → judge log ≡ success rs → (b : Bool) → ltb (length ws) (words_for (badges_of rs) (ticks_of rs)) ≡ b → Case log ws
-    words rs f true g = words-few rs f (ltb-true _ _ g)
-    words rs f false g = words-enough rs f (ltb-false _ _ g)
+    words rs f true g = words_few rs f (ltb-true _ _ g)
+    words rs f false g = words_enough rs f (ltb-false _ _ g)
 
     go : (o : Outcome (List Record)) → judge log ≡ o → Case log ws
-    go (refused number offset) f = log-refused number offset f
+    go (refused number offset) f = log_refused number offset f
     go (success rs) f = words rs f (ltb (length ws) (words_for (badges_of rs) (ticks_of rs))) refl
 
 -- a verdict says what judging came to

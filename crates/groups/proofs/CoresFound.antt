@@ -28,11 +28,11 @@ pub record CoresSoFar (n T : ℕ) (ws : List ℕ) (base : ℕ) (least : Threshol
   pub reviewed : Review n base
   pub enough : 1 ≤ least.members
   pub high : first ≤ T
-  pub packs-room : max_cores ≤ length packs
+  pub packs_room : max_cores ≤ length packs
   pub room : max_cores * set_words ≤ length memory
-  pub members-size : length members ≡ max_ticks * set_words
-  pub circles-size : length circles ≡ max_ticks
-  pub large-size : length large ≡ max_ticks
+  pub members_size : length members ≡ max_ticks * set_words
+  pub circles_size : length circles ≡ max_ticks
+  pub large_size : length large ≡ max_ticks
   pub before : ScoresBefore n T ws base 0 first orders
   pub cores : KeepsCores (circle_count n ws) (record_count n ws least) (kept least (concat_below first (groups_from n T ws base))) 0 count 0 records packs₀ packs memory₀ memory
 
@@ -47,11 +47,11 @@ so-far-none n T ws base least packs memory d v e q r = record {
   reviewed = v;
   enough = e;
   high = omega arith;
-  packs-room = q;
+  packs_room = q;
   room = r;
-  members-size = refl;
-  circles-size = refl;
-  large-size = refl;
+  members_size = refl;
+  circles_size = refl;
+  large_size = refl;
   before = scores-none n T ws base 0 (short d);
   cores = keeps-none;
 }
@@ -67,12 +67,12 @@ module _ {n T : ℕ} {ws : List ℕ} {base : ℕ} {least : Thresholds} {first co
         let h = short s.lent in
         record {
           short = h;
-          orders-size = omega (arith, c.orders-size, s.before.size);
-          circles-size = omega (arith, c.circles-size);
-          large-size = omega (arith, c.large-size);
+          orders_size = omega (arith, c.orders_size, s.before.size);
+          circles_size = omega (arith, c.circles_size);
+          large_size = omega (arith, c.large_size);
           inside = l;
-          records-few = s.cores.few (omega arith);
-          packs-room = omega (arith, s.packs-room, so-far-few);
+          records_few = s.cores.few (omega arith);
+          packs_room = omega (arith, s.packs_room, so-far-few);
           room = omega (arith, s.room, so-far-few);
           few = so-far-few;
         }
@@ -89,11 +89,11 @@ module _ {n T : ℕ} {ws : List ℕ} {base : ℕ} {least : Thresholds} {first co
           reviewed = s.reviewed;
           enough = s.enough;
           high = omega arith;
-          packs-room = omega (arith, s.packs-room, a.packs-size);
+          packs_room = omega (arith, s.packs_room, a.packs_size);
           room = omega (arith, s.room, a.size);
-          members-size = c.members-size;
-          circles-size = c.circles-size;
-          large-size = c.large-size;
+          members_size = c.members_size;
+          circles_size = c.circles_size;
+          large_size = c.large_size;
           before = rw e (scores-more s.before c);
           cores = rw (e, kept_append least (concat_below first (groups_from n T ws base)) (groups_from n T ws base first)) (keeps_then s.cores b);
         }

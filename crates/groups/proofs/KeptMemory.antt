@@ -54,7 +54,7 @@ total-same (c ∷ cs) h = ap₂ ◌+◌ (h c (Memᴰ.head refl)) (total-same cs 
 -- nothing is kept
 pub keeps-none : {circles large : SpanCore → ℕ} {count records : ℕ} {packs memory : List ℕ} → KeepsCores circles large [] count count records records packs packs memory memory
 unfolding packs_of sets_of words_of total
-keeps-none = record { number = omega arith; made = omega arith; few = λ h. h; packs-size = refl; size = refl; in-packs = sym (append-nil _); in_memory = sym (append-nil _) }
+keeps-none = record { number = omega arith; made = omega arith; few = λ h. h; packs_size = refl; size = refl; in_packs = sym (append-nil _); in_memory = sym (append-nil _) }
 
 module _ {circles large : SpanCore → ℕ} where
   -- one list after another
@@ -64,10 +64,10 @@ module _ {circles large : SpanCore → ℕ} where
     number = omega (arith, e.number, f.number, length-append xs ys);
     made = omega (arith, e.made, f.made, total-append large xs ys);
     few = λ h. f.few (e.few h);
-    packs-size = f.packs-size ∙ e.packs-size;
+    packs_size = f.packs_size ∙ e.packs_size;
     size = f.size ∙ e.size;
-    in-packs =
-        f.in-packs ∙ ap (λ (s : List ℕ). s ++ packs_of circles ys) e.in-packs ∙ append_assoc (take i u) (packs_of circles xs) (packs_of circles ys)
+    in_packs =
+        f.in_packs ∙ ap (λ (s : List ℕ). s ++ packs_of circles ys) e.in_packs ∙ append_assoc (take i u) (packs_of circles xs) (packs_of circles ys)
         ∙ ap (λ (s : List ℕ). take i u ++ s) (sym (packs-append circles xs ys));
     in_memory =
         f.in_memory ∙ ap (λ (s : List ℕ). s ++ words_of (sets_of ys)) e.in_memory ∙ append_assoc (take (i * set_words) x) (words_of (sets_of xs)) (words_of (sets_of ys))
@@ -81,9 +81,9 @@ module _ {circles large : SpanCore → ℕ} where
     number = e.number;
     made = e.made ∙ ap (λ (t : ℕ). p + t) (total-same cs (λ c m. (h c m).1));
     few = e.few;
-    packs-size = e.packs-size;
+    packs_size = e.packs_size;
     size = e.size;
-    in-packs = e.in-packs ∙ ap (λ (s : List ℕ). take i u ++ s) (packs-same cs (λ c m. (h c m).0));
+    in_packs = e.in_packs ∙ ap (λ (s : List ℕ). take i u ++ s) (packs-same cs (λ c m. (h c m).0));
     in_memory = e.in_memory;
   }
 
@@ -99,9 +99,9 @@ keeps-one c circles large {count} {records} {pack} {packs} {memory} l m small e 
       number = omega arith;
       made = omega arith;
       few = λ h. omega arith;
-      packs-size = length-set packs count pack;
+      packs_size = length-set packs count pack;
       size = put-length memory count c.members;
-      in-packs = first ∙ ap (λ (w : ℕ). take count packs ++ (w ∷ [])) e;
+      in_packs = first ∙ ap (λ (w : ℕ). take count packs ++ (w ∷ [])) e;
       in_memory = second ∙ ap (λ (s : List ℕ). take (count * set_words) memory ++ s) (sym (append-nil _));
     }
 

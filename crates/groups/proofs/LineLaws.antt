@@ -38,7 +38,7 @@ scores-none n T ws base query s = record {
 pub scores-more : {n T : ℕ} {ws : List ℕ} {base query first enough : ℕ} {orders orders' members' circles' large' : List ℕ} → ScoresBefore n T ws base query first orders
     → LineFound n T ws base query first enough orders orders' members' circles' large' → ScoresBefore n T ws base query (suc first) orders'
 scores-more {n} {T} {ws} {base} {query} {first} b f = record {
-  size = f.orders-size ∙ b.size;
+  size = f.orders_size ∙ b.size;
   score = λ last l m. f.score last (omega arith) m ∙ sym (score-before-more n ws base query first last);
   end = f.after T (le_refl T) ∙ b.end;
 }
@@ -74,4 +74,4 @@ unfolding circle_count record_count circles_of
 line-counted {T = T} {first = first} least {orders' = orders'} {members'} p f c i =
     let x = of-line-list orders' members' first T c (of-kept least _ i).0 in
     let k = f.counted p x.0 x.1 x.2 x.3 in
-    rw x.4 (k.in_all, k.with-enough)
+    rw x.4 (k.in_all, k.with_enough)

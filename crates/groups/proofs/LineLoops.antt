@@ -46,7 +46,7 @@ new-sub n ws base query first last = by_cases (dec_lt (score_before n ws base qu
 pub record CoreAsked (n T : ℕ) (ws : List ℕ) (base query first last lower upper : ℕ) (rows : List ℕ) (reached : ℕ) : Type 0 where
   pub span : SpanOfDay n T ws first last
   pub named : Sub base (full n)
-  pub rows-to : RowsTo n ws first last rows reached
+  pub rows_to : RowsTo n ws first last rows reached
   pub below : lower ≡ score_before n ws base query first last
   pub above : score_on n ws base query first last ≤ upper
 
@@ -55,7 +55,7 @@ pub record CoreAsked (n T : ℕ) (ws : List ℕ) (base query first last lower up
 pub record CoreFound (n : ℕ) (ws : List ℕ) (base query first last enough order members all large : ℕ) (rows : List ℕ) (reached : ℕ) : Type 0 where
   pub score : order ≡ score_on n ws base query first last
   pub new : members ≡ new_members n ws base query first last
-  pub rows-to : RowsTo n ws first last rows reached
+  pub rows_to : RowsTo n ws first last rows reached
   pub counted : 1 ≤ enough → 0 < members → Counted (circles (span_neighbours n ws first last) members) enough all large
 
 module _ {n T : ℕ} {ws : List ℕ} {base query first last lower upper : ℕ} {rows : List ℕ} {reached : ℕ} (a : CoreAsked n T ws base query first last lower upper rows reached) where
@@ -63,7 +63,7 @@ module _ {n T : ℕ} {ws : List ℕ} {base query first last lower upper : ℕ} {
   pub bounds-meet : {enough all large : ℕ} → upper ≤ lower → CoreFound n ws base query first last enough lower 0 all large rows reached
   bounds-meet h =
       let e : lower ≡ score_on n ws base query first last = omega (arith, a.below, a.above, score-before-le n ws base query first last) in
-      record { score = e; new = sym (new-no n ws base query first last (omega (arith, a.below))); rows-to = a.rows-to; counted = λ p q. absurd (omega arith) }
+      record { score = e; new = sym (new-no n ws base query first last (omega (arith, a.below))); rows_to = a.rows_to; counted = λ p q. absurd (omega arith) }
 
   -- elsewhere the core is found from the span's rows, among the reviewed badges that are in some row
   pub core-found : {longer : List ℕ} {s t enough order members all large : ℕ} → longer ≡ span_words n ws first last → Unites n longer s → t ≡ intersection s base
@@ -73,7 +73,7 @@ module _ {n T : ℕ} {ws : List ℕ} {base query first last lower upper : ℕ} {
       record {
         score = omega (arith, found.order, a.below, a.above, score-before-le n ws base query first last);
         new = news;
-        rows-to = record { low = a.span.rising; high = le_refl last; are = e };
+        rows_to = record { low = a.span.rising; high = le_refl last; are = e };
         counted = λ p r. rw (e, span-circles a.span members (sub_trans (rw news (new-sub n ws base query first last)) a.named)) at (k p);
       }
     where
@@ -103,7 +103,7 @@ module _ {n T : ℕ} {ws : List ℕ} {base query first last lower upper : ℕ} {
 pub record Finding (n T : ℕ) (ws : List ℕ) (base query first : ℕ) (enough : ℕ) (orders : List ℕ) (last : ℕ) (rows : List ℕ) (reached upper : ℕ) (orders' members' circles' large' : List ℕ) : Type 0 where
   pub low : first ≤ last
   pub high : last ≤ T
-  pub rows-to : RowsTo n ws first last rows reached
+  pub rows_to : RowsTo n ws first last rows reached
   pub above : (i : ℕ) → last ≤ i → score_on n ws base query first i ≤ upper
   pub found : LineFound n last ws base query first enough orders orders' members' circles' large'
 
@@ -122,13 +122,13 @@ module _ {n T : ℕ} {ws : List ℕ} {base query first enough : ℕ} {orders : L
   finding-start e s u v = record {
     low = le_refl first;
     high = omega arith;
-    rows-to = record { low = le_refl first; high = le_refl first; are = e };
+    rows_to = record { low = le_refl first; high = le_refl first; are = e };
     above = λ i p. omega (arith, score-on-le n ws base query first i, (limits_of d.limits).few);
     found = record {
-      orders-size = refl;
-      members-size = s;
-      circles-size = u;
-      large-size = v;
+      orders_size = refl;
+      members_size = s;
+      circles_size = u;
+      large_size = v;
       after = λ i p. refl;
       score = λ i p q. absurd (omega arith);
       new = λ i p q. absurd (omega arith);
@@ -142,14 +142,14 @@ module _ {n T : ℕ} {ws : List ℕ} {base query first enough : ℕ} {orders : L
     finding-asks = record {
       span = record { lent = d; rising = f.low; inside = k };
       named = r.named;
-      rows-to = f.rows-to;
+      rows_to = f.rows_to;
       below = f.found.after last (le_refl last) ∙ b.score last f.low k;
       above = f.above last (le_refl last);
     }
 
     -- the tick is a place of the orders, and of every table with a place for each tick
     pub place-orders : last < length orders'
-    place-orders = omega (arith, f.found.orders-size, b.size, (limits_of d.limits).short)
+    place-orders = omega (arith, f.found.orders_size, b.size, (limits_of d.limits).short)
 
     pub place-table : {size : ℕ} → size ≡ max_ticks → last < size
     place-table e = omega (arith, e, (limits_of d.limits).short)
@@ -161,13 +161,13 @@ module _ {n T : ℕ} {ws : List ℕ} {base query first enough : ℕ} {orders : L
     finding-next {order} {word} {narrowed} {tick} {circles''} {large''} x y c = record {
       low = omega (arith, f.low);
       high = omega arith;
-      rows-to = record { low = c.rows-to.low; high = omega (arith, c.rows-to.high); are = c.rows-to.are };
+      rows_to = record { low = c.rows_to.low; high = omega (arith, c.rows_to.high); are = c.rows_to.are };
       above = λ i p. omega (arith, c.score, score-falls n ws base query first last first i (omega arith) (omega arith));
       found = record {
-        orders-size = length-set orders' last order ∙ f.found.orders-size;
-        members-size = put-length members' last word ∙ f.found.members-size;
-        circles-size = x.size ∙ f.found.circles-size;
-        large-size = y.size ∙ f.found.large-size;
+        orders_size = length-set orders' last order ∙ f.found.orders_size;
+        members_size = put-length members' last word ∙ f.found.members_size;
+        circles_size = x.size ∙ f.found.circles_size;
+        large_size = y.size ∙ f.found.large_size;
         after = λ i p. get_or-set_other orders' last i order 0 (λ e. omega arith) ∙ f.found.after i (omega arith);
         score = λ i p q. put (score_on n ws base query first) orders' order place-orders c.score f.found.score i p q;
         new = λ i p q. by_cases (dec_lt i last) (λ r. before i r ∙ f.found.new i p r) (λ r. let t : i ≡ last = omega arith in rw t (there ∙ c.new));
@@ -184,7 +184,7 @@ module _ {n T : ℕ} {ws : List ℕ} {base query first enough : ℕ} {orders : L
 
         -- the set put at the tick, and those of the ticks before it
         there : set_at (put_set members' last word) last ≡ word
-        there = put-there members' last word (omega (arith, f.found.members-size, (limits_of d.limits).short))
+        there = put-there members' last word (omega (arith, f.found.members_size, (limits_of d.limits).short))
 
         before : (i : ℕ) → i < last → set_at (put_set members' last word) i ≡ set_at members' i
         before i l = put_other members' last i word (λ t. omega arith)

@@ -65,11 +65,11 @@ pub record PlanSoFar (n T : ℕ) (ws : List ℕ) (base query h : ℕ) (ends scor
 
 -- a buffer of the same length does as well
 same-room : {n T : ℕ} {ws : List ℕ} {base query h : ℕ} {ends scores x y : List ℕ} → length y ≡ length x → PlanParts n T ws base query h ends scores x → PlanParts n T ws base query h ends scores y
-same-room e p = record { lent = p.lent; reviewed = p.reviewed; scored = p.scored; cutting = p.cutting; ends-size = p.ends-size; room = omega (arith, p.room) }
+same-room e p = record { lent = p.lent; reviewed = p.reviewed; scored = p.scored; cutting = p.cutting; ends_size = p.ends_size; room = omega (arith, p.room) }
 
 -- there are no more parts than ticks
 pub parts-few : {n T : ℕ} {ws : List ℕ} {base query h : ℕ} {ends scores buffer : List ℕ} → PlanParts n T ws base query h ends scores buffer → h ≤ max_ticks
-parts-few {h = h} {ends = ends} p = omega (arith, p.cutting.count, p.ends-size, length-take h ends)
+parts-few {h = h} {ends = ends} p = omega (arith, p.cutting.count, p.ends_size, length-take h ends)
 
 pub plan-none : {n T : ℕ} {ws : List ℕ} {base query h : ℕ} {ends scores given buffer : List ℕ} → length buffer ≡ length given → PlanParts n T ws base query h ends scores given → PlanSoFar n T ws base query h ends scores 0 0 0 buffer buffer
 unfolding parts_from next_first
@@ -102,7 +102,7 @@ module _ {n T : ℕ} {ws : List ℕ} {base query h : ℕ} {ends scores : List �
           → AppendsCores f.part f.set_bytes (core_bytes f.set_bytes) (part_on n ws base query first last ∷ []) count count' buffer buffer'
           → PlanSoFar n T ws base query h ends scores (i + 1) (last + 1) count' buffer₀ buffer'
       plan-next {last} {count'} {buffer'} e a =
-          let t : take (suc i) ends ≡ take i ends ++ (get_or ends i 0 ∷ []) = take-suc ends i 0 (omega (arith, parts-few s.asked, s.asked.ends-size)) in
+          let t : take (suc i) ends ≡ take i ends ++ (get_or ends i 0 ∷ []) = take-suc ends i 0 (omega (arith, parts-few s.asked, s.asked.ends_size)) in
           let p : parts_from n ws base query 0 (take (suc i) ends) ≡ parts_from n ws base query 0 (take i ends) ++ (part_on n ws base query first last ∷ []) = rw (t, parts_more n ws base query 0 (take i ends) (get_or ends i 0), ← s.next, ← e) in
           let y : next_first 0 (take (suc i) ends) ≡ suc (get_or ends i 0) = ap (next_first 0) t ∙ next_more 0 (take i ends) (get_or ends i 0) in
           let z : last + 1 ≡ suc (get_or ends i 0) = omega arith in

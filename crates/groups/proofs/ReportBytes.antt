@@ -39,7 +39,7 @@ use Rattle.spans.proofs.RecordLists.{circle-records-append}
 use Rattle.spans.proofs.CircleStated.{core-span, core-inside, core-small}
 use Rattle.spans.proofs.Forms.{marked}
 use Rattle.spans.proofs.MostGroups.{report-length, groups-few}
-use Rattle.spans.proofs.MostRecords.{records-few, most-small}
+use Rattle.spans.proofs.MostRecords.{records_few, most-small}
 use Rattle.groups.specs.Keeping.{packs_of, sets_of, total, Unpacked, circle_count, record_count, FindsCores}
 use Rattle.groups.specs.Appending.{AppendsCores, large_records, RowsOf, CoreToSplit, shown_bytes, ReportCores, EncodesReport, DeliversReport}
 use Rattle.groups.proofs.Appended.{further, appends-none, appends-then}
@@ -120,10 +120,10 @@ module _ {n T : ℕ} {ws : List ℕ} {base : ℕ} (lent : LentDay n T ws) (r : R
     lent = lent;
     reviewed = r;
     number = omega (arith, f.number);
-    in-packs = f.in-packs;
+    in_packs = f.in_packs;
     in_memory = f.in_memory;
     few = (found-few f).0;
-    size = omega (arith, (found-few f).0, f.packs-size);
+    size = omega (arith, (found-few f).0, f.packs_size);
     room = omega (arith, found-size same f);
   }
 
@@ -186,7 +186,7 @@ module _ {n T : ℕ} {ws : List ℕ} {base : ℕ} {least : Thresholds} {cores : 
           s.appended.number,
           ap length (shown-apart s.done s.left s.all),
           length-append (kept least (circle_records n ws s.done)) (kept least (circle_records n ws s.left)),
-          records-few p.lent p.reviewed.named least,
+          records_few p.lent p.reviewed.named least,
           most-small limits.few limits.short,
         )
 
@@ -220,7 +220,7 @@ module _ {n T : ℕ} {ws : List ℕ} {base : ℕ} {least : Thresholds} {cores : 
         told : (d ≡ core) × (circles ≡ circle_count n ws core)
         told =
             let b = core-bytes p.lent p.reviewed least core core-in in
-            kept_at (circle_count n ws) cores packs memory s.done core after (p.in-packs ∙ ap (packs_of (circle_count n ws)) apart) (p.in_memory ∙ ap (λ (cs : List SpanCore). words_of (sets_of cs)) apart) (omega (arith, s.turn)) b.0 b.1 b.2 b.3 (rw s.turn at u)
+            kept_at (circle_count n ws) cores packs memory s.done core after (p.in_packs ∙ ap (packs_of (circle_count n ws)) apart) (p.in_memory ∙ ap (λ (cs : List SpanCore). words_of (sets_of cs)) apart) (omega (arith, s.turn)) b.0 b.1 b.2 b.3 (rw s.turn at u)
 
         pub written-split : CoreToSplit n T ws least.members d circles f.set_bytes count buffer
         unfolding circle_count record_count circle_records

@@ -29,7 +29,7 @@ module _ (scores : List ℕ) (first last value : ℕ) where
 
 -- The loop over the last ticks of the runs that start with a tick, at tick last: those that end before it are in the table.
 pub putting-start : {T first : ℕ} {orders scores : List ℕ} → LinePlaces T first orders scores → LinePut first first orders scores scores
-putting-start p = record { size = p.scores-size; here = λ i l r. absurd (omega arith); before = λ f l r q. refl }
+putting-start p = record { size = p.scores_size; here = λ i l r. absurd (omega arith); before = λ f l r q. refl }
 
 module _ {T first : ℕ} {orders scores : List ℕ} (p : LinePlaces T first orders scores) {last : ℕ} {scores' : List ℕ} (h : LinePut last first orders scores scores')
     (m : first ≤ last) (k : last < T) where
@@ -49,9 +49,9 @@ module _ {T first : ℕ} {orders scores : List ℕ} (p : LinePlaces T first orde
 -- The loop over the first ticks, at tick first: the runs that start before it are in the table, and the scores of those that start one tick
 -- before it are at hand.
 pub record ScoredBefore (n T : ℕ) (ws : List ℕ) (base query first : ℕ) (orders members circles large scores : List ℕ) : Type 0 where
-  pub members-size : length members ≡ max_ticks * set_words
-  pub circles-size : length circles ≡ max_ticks
-  pub large-size : length large ≡ max_ticks
+  pub members_size : length members ≡ max_ticks * set_words
+  pub circles_size : length circles ≡ max_ticks
+  pub large_size : length large ≡ max_ticks
   pub before : ScoresBefore n T ws base query first orders
   pub found : Scores n T ws base query first scores
 
@@ -63,9 +63,9 @@ module _ {n T : ℕ} {ws : List ℕ} (d : LentDay n T ws) where
   pub scored-none : (base query : ℕ) {scores : List ℕ} → length scores ≡ max_ticks * max_ticks
       → ScoredBefore n T ws base query 0 (replicate (suc max_ticks) 0) (replicate (max_ticks * set_words) 0) (replicate max_ticks 0) (replicate max_ticks 0) scores
   scored-none base query e = record {
-    members-size = refl;
-    circles-size = refl;
-    large-size = refl;
+    members_size = refl;
+    circles_size = refl;
+    large_size = refl;
     before = scores-none n T ws base query short;
     found = record { size = e; score = λ first last l m r. absurd (omega arith) };
   }
@@ -74,13 +74,13 @@ module _ {n T : ℕ} {ws : List ℕ} (d : LentDay n T ws) where
   module _ {base query first enough : ℕ} {orders members circles large scores : List ℕ} (b : ScoredBefore n T ws base query first orders members circles large scores) (k : first < T)
       {orders' members' circles' large' : List ℕ} (f : LineFound n T ws base query first enough orders orders' members' circles' large') where
     pub scored-places : LinePlaces T first orders' scores
-    scored-places = record { short = short; inside = k; orders-size = omega (arith, f.orders-size, b.before.size, short); scores-size = b.found.size }
+    scored-places = record { short = short; inside = k; orders_size = omega (arith, f.orders_size, b.before.size, short); scores_size = b.found.size }
 
     pub scored-more : {scores' : List ℕ} → LinePut T first orders' scores scores' → ScoredBefore n T ws base query (first + 1) orders' members' circles' large' scores'
     scored-more p = rw add-one (record {
-      members-size = f.members-size;
-      circles-size = f.circles-size;
-      large-size = f.large-size;
+      members_size = f.members_size;
+      circles_size = f.circles_size;
+      large_size = f.large_size;
       before = scores-more b.before f;
       found = record {
         size = p.size;

@@ -67,7 +67,7 @@ pub record ReportCores (n T : ℕ) (ws : List ℕ) (base : ℕ) (least : Thresho
   pub lent : LentDay n T ws
   pub reviewed : Review n base
   pub number : count ≡ length (kept least (groups_of n T ws base))
-  pub in-packs : take count packs ≡ packs_of (circle_count n ws) (kept least (groups_of n T ws base))
+  pub in_packs : take count packs ≡ packs_of (circle_count n ws) (kept least (groups_of n T ws base))
   pub in_memory : take (count * set_words) memory ≡ words_of (sets_of (kept least (groups_of n T ws base)))
   pub few : count ≤ max_cores
   pub size : count ≤ length packs

@@ -36,9 +36,9 @@ pub record KeepsCores (circles large : SpanCore → ℕ) (cores : List SpanCore)
   pub number : count' ≡ count + length cores
   pub made : records' ≡ records + total large cores
   pub few : records ≤ 255 * count → records' ≤ 255 * count'
-  pub packs-size : length packs' ≡ length packs
+  pub packs_size : length packs' ≡ length packs
   pub size : length memory' ≡ length memory
-  pub in-packs : take count' packs' ≡ take count packs ++ packs_of circles cores
+  pub in_packs : take count' packs' ≡ take count packs ++ packs_of circles cores
   pub in_memory : take (count' * set_words) memory' ≡ take (count * set_words) memory ++ words_of (sets_of cores)
 
 -- the core that a pack and a set say, and how many circles it has
@@ -61,12 +61,12 @@ at_last table c = get_or table c.last 0
 -- sizes that let a line of cores be kept: at most one for each last tick from the first tick on
 pub record LineRoom (T first count records : ℕ) (orders circles large packs memory : List ℕ) : Type 0 where
   pub short : T ≤ max_ticks
-  pub orders-size : T < length orders
-  pub circles-size : T ≤ length circles
-  pub large-size : T ≤ length large
+  pub orders_size : T < length orders
+  pub circles_size : T ≤ length circles
+  pub large_size : T ≤ length large
   pub inside : first < T
-  pub records-few : records ≤ 255 * count
-  pub packs-room : count + (T - first) ≤ length packs
+  pub records_few : records ≤ 255 * count
+  pub packs_room : count + (T - first) ≤ length packs
   pub room : (count + (T - first)) * set_words ≤ length memory
   pub few : count + (T - first) ≤ max_cores
 

@@ -12,8 +12,8 @@ use Rattle.spans.specs.Encoding.{form_of, core_bytes, plan_bytes}
 pub record LinePlaces (T first : ℕ) (orders scores : List ℕ) : Type 0 where
   pub short : T ≤ max_ticks
   pub inside : first < T
-  pub orders-size : T ≤ length orders
-  pub scores-size : length scores ≡ max_ticks * max_ticks
+  pub orders_size : T ≤ length orders
+  pub scores_size : length scores ≡ max_ticks * max_ticks
 
 -- the scores of the runs that start with a tick stand in its row of a table, and the rows before it stay
 pub record LinePut (T first : ℕ) (orders scores scores' : List ℕ) : Type 0 where
@@ -36,7 +36,7 @@ pub record PlanParts (n T : ℕ) (ws : List ℕ) (base query h : ℕ) (ends scor
   pub reviewed : Review n base
   pub scored : Scores n T ws base query T scores
   pub cutting : Cutting T h (take h ends)
-  pub ends-size : length ends ≡ max_ticks
+  pub ends_size : length ends ≡ max_ticks
   pub room : plan_size (form_of n).set_bytes h ≤ length buffer
 
 -- The plan is laid over the first bytes of a buffer, and the bytes after it are as they were.

@@ -21,10 +21,10 @@ use Rattle.innermost.proofs.Columns.{in-degree-split, in-degree-less, in-degree-
 
 -- the smallest member's row is taken, or none where there is no member
 pub takes_none : (rows : ℕ → ℕ) {s : ℕ} → s ≡ 0 → TakesRow rows s 0 0
-takes_none rows e = rw e (record { falls = λ p. absurd (omega arith); never-rises = le_refl _; each = λ v. omega (arith, bit-none v) })
+takes_none rows e = rw e (record { falls = λ p. absurd (omega arith); never_rises = le_refl _; each = λ v. omega (arith, bit-none v) })
 
 pub takes_one : (rows : ℕ → ℕ) (s u : ℕ) {rest : ℕ} → In s u → rest ≡ difference s (only u) → TakesRow rows s (rows u) rest
-takes_one rows s u i e = rw e (record { falls = λ p. size-without s u i; never-rises = le_of_lt (size-without s u i); each = λ v. in-degree-less rows s u v i })
+takes_one rows s u i e = rw e (record { falls = λ p. size-without s u i; never_rises = le_of_lt (size-without s u i); each = λ v. in-degree-less rows s u v i })
 
 -- the first badge of a word is the smallest, by its trailing zeros; the word at its place in the rows is taken
 pub first-badge : (word : ℕ) → word < 2 ^ word_bits → (word ≡ 0 → ⊥) → In word (count_trailing_zeros word_bits word) × (count_trailing_zeros word_bits word < word_bits)
@@ -42,7 +42,7 @@ pub adds-eight : {rows : ℕ → ℕ} {s a b c d e f g h s1 s2 s3 s4 s5 s6 s7 s8
     → TakesRow rows s4 e s5 → TakesRow rows s5 f s6 → TakesRow rows s6 g s7 → TakesRow rows s7 h s8 → 2 ^ length ps ≡ 2 * half
     → Plus (λ (v : ℕ). bit a v + bit b v + bit c v + bit d v + bit e v + bit f v + bit g v + bit h v) ps qs → AddsSome rows s s8 ps qs
 adds-eight {rows} {s} {s8 = s8} {ps} {qs} t1 t2 t3 t4 t5 t6 t7 t8 room p = record {
-  falls = λ q. omega (arith, t1.falls q, t2.never-rises, t3.never-rises, t4.never-rises, t5.never-rises, t6.never-rises, t7.never-rises, t8.never-rises);
+  falls = λ q. omega (arith, t1.falls q, t2.never_rises, t3.never_rises, t4.never_rises, t5.never_rises, t6.never_rises, t7.never_rises, t8.never_rises);
   each = λ v l.
       let x1 = t1.each v in
       let x2 = t2.each v in
@@ -60,7 +60,7 @@ adds-eight {rows} {s} {s8 = s8} {ps} {qs} t1 t2 t3 t4 t5 t6 t7 t8 room p = recor
 pub adds-two : {rows : ℕ → ℕ} {s a b s1 s2 : ℕ} {ps qs : List ℕ} → TakesRow rows s a s1 → TakesRow rows s1 b s2 → 2 ^ length ps ≡ 2 * half
     → Plus (λ (v : ℕ). bit a v + bit b v) ps qs → AddsSome rows s s2 ps qs
 adds-two t1 t2 room p = record {
-  falls = λ q. omega (arith, t1.falls q, t2.never-rises);
+  falls = λ q. omega (arith, t1.falls q, t2.never_rises);
   each = λ v l.
       let x1 = t1.each v in
       let x2 = t2.each v in

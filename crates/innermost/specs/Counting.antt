@@ -12,7 +12,7 @@ row_word rows from side u = get_or rows ((from + u) * set_words + side) 0
 -- one row of the members of s, and the other members: an empty row where there is none
 pub record TakesRow (rows : ℕ → ℕ) (s row rest : ℕ) : Type 0 where
   pub falls : 0 < s → size rest < size s
-  pub never-rises : size rest ≤ size s
+  pub never_rises : size rest ≤ size s
   pub each : (v : ℕ) → in_degree rows s v ≡ bit row v + in_degree rows rest v
 
 -- x v is added in each lane v in which there is room for the sum

@@ -17,7 +17,7 @@ use Rattle.records.proofs.Accepting.{accepted-of}
 use Rattle.days.specs.Days.{adjacent, day_words, day_of}
 use Rattle.days.specs.Calls.{Read, read_of, check_of}
 use Rattle.days.proofs.Days.{day-length, neighbours-append, in-day, of-day}
-use Rattle.days.proofs.ReadCall.{read-refused, read-few, read-success, Case, log-refused, words-few, words-enough, case-of}
+use Rattle.days.proofs.ReadCall.{read-refused, read-few, read-success, Case, log_refused, words_few, words_enough, case-of}
 use Rattle.logs.specs.Tidy.{tidy_contacts, tidy_log}
 use Rattle.logs.specs.Buffers.{deliver}
 use Rattle.logs.specs.Calls.{write_judged, write_of, tidy_before9, tidy_of}
@@ -106,15 +106,15 @@ unfolding values_of
 was_read log work left n T m l e = rw l (go (case-of log work))
   where
     go : Case log work → WasRead log work (read_of log work).words n T
-    go (log-refused k p f) = absurd (refused-success (sym (answer-of (read-refused log work k p f)) ∙ e))
-    go (words-few rs f h) = absurd (refused-success (sym (answer-of (read-few log work rs f h)) ∙ e))
-    go (words-enough rs f h) = subst (λ (v : Values). WasRead log work (read_of log work).words v.badges v.ticks) (success-same (sym (answer-of (read-success log work rs f h)) ∙ e)) (accepted-read log work rs f h)
+    go (log_refused k p f) = absurd (refused-success (sym (answer-of (read-refused log work k p f)) ∙ e))
+    go (words_few rs f h) = absurd (refused-success (sym (answer-of (read-few log work rs f h)) ∙ e))
+    go (words_enough rs f h) = subst (λ (v : Values). WasRead log work (read_of log work).words v.badges v.ticks) (success-same (sym (answer-of (read-success log work rs f h)) ∙ e)) (accepted-read log work rs f h)
 
 -- what reading refuses, tidy refuses alike
 pub unread-refused : (log work : List ℕ) (number offset : ℕ) → (read_of log work).answer ≡ refused number offset → tidy_before9 log work ≡ refused number offset
 unread-refused log work number offset e = go (case-of log work)
   where
     go : Case log work → tidy_before9 log work ≡ refused number offset
-    go (log-refused k p f) = before9-refused log work k p f ∙ refused-same (sym (answer-of (read-refused log work k p f)) ∙ e)
-    go (words-few rs f h) = before9-few log work rs f h ∙ refused-same (sym (answer-of (read-few log work rs f h)) ∙ e)
-    go (words-enough rs f h) = absurd (refused-success (sym e ∙ answer-of (read-success log work rs f h)))
+    go (log_refused k p f) = before9-refused log work k p f ∙ refused-same (sym (answer-of (read-refused log work k p f)) ∙ e)
+    go (words_few rs f h) = before9-few log work rs f h ∙ refused-same (sym (answer-of (read-few log work rs f h)) ∙ e)
+    go (words_enough rs f h) = absurd (refused-success (sym e ∙ answer-of (read-success log work rs f h)))

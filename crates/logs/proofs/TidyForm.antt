@@ -20,7 +20,7 @@ use Rattle.records.specs.Meaning.{covers}
 use Rattle.records.specs.Logs.{Mem, Met}
 use Rattle.records.proofs.Judged.{valid-in}
 use Rattle.records.proofs.Meaning.{Covers, covers_of, covers-in, covers-swap}
-use Rattle.logs.specs.Tidy.{Run, IsRun, smaller_of, larger_of, first_of, Before, by-smaller, by-larger, by_first, IsTidy, run_start, run_ends, run_at, runs_of, row_runs, tidy_contacts}
+use Rattle.logs.specs.Tidy.{Run, IsRun, smaller_of, larger_of, first_of, Before, by_smaller, by_larger, by_first, IsTidy, run_start, run_ends, run_at, runs_of, row_runs, tidy_contacts}
 use Rattle.logs.proofs.Runs.{run_of, of-run, in-run, run-gap, run-meet}
 
 -- a record is in the runs of a pair exactly when it is of a run of the pair
@@ -80,14 +80,14 @@ unfolding row_runs
 sorted-row n T r u = pairwise-concat n _ (λ v h. pairwise-keep (ltb u v) (sorted-runs T (λ t. r t u v) u v)) (λ i j l k c d m m'.
     let x = of-runs T (λ t. r t u i) u i c (of-keep (ltb u i) _ m).1 in
     let y = of-runs T (λ t. r t u j) u j d (of-keep (ltb u j) _ m').1 in
-    rw (x.3, y.3) (by-larger refl l))
+    rw (x.3, y.3) (by_larger refl l))
 
 sorted-tidy : (n T : ℕ) (r : ℕ → ℕ → ℕ → Bool) → Pairwise Before (tidy_contacts n T r)
 unfolding tidy_contacts
 sorted-tidy n T r = pairwise-concat n (row_runs n T r) (λ u h. sorted-row n T r u) (λ i j l k c d m m'.
     let x = of_row n T r i c m in
     let y = of_row n T r j d m' in
-    rw (x.6, y.6) (by-smaller l))
+    rw (x.6, y.6) (by_smaller l))
 
 -- the tidy list is the tidy form
 pub tidy-form : (n T : ℕ) (r : ℕ → ℕ → ℕ → Bool) → IsTidy n T (λ t u v. r t u v ≡ true) (tidy_contacts n T r)
@@ -96,8 +96,8 @@ tidy-form n T r = record { exactly = λ c. (tidy-of n T r c, tidy-in n T r c); s
 -- coming before, part by part
 pub before-parts : {c d : Record} → Before c d
     → (smaller_of c ≤ smaller_of d) × (smaller_of c ≡ smaller_of d → (larger_of c ≤ larger_of d) × (larger_of c ≡ larger_of d → first_of c < first_of d))
-before-parts (by-smaller h) = (omega arith, λ e. absurd (omega arith))
-before-parts (by-larger e h) = (omega arith, λ e'. (omega arith, λ f. absurd (omega arith)))
+before-parts (by_smaller h) = (omega arith, λ e. absurd (omega arith))
+before-parts (by_larger e h) = (omega arith, λ e'. (omega arith, λ f. absurd (omega arith)))
 before-parts (by_first e f h) = (omega arith, λ e'. (omega arith, λ f'. h))
 
 -- no two records each come before the other

@@ -41,8 +41,8 @@ first_of (End count) = 0
 
 -- a record comes before another: by smaller badge, larger badge, first tick
 pub data Before (c d : Record) : Type 0 where
-  by-smaller : smaller_of c < smaller_of d → Before c d
-  by-larger : smaller_of c ≡ smaller_of d → larger_of c < larger_of d → Before c d
+  by_smaller : smaller_of c < smaller_of d → Before c d
+  by_larger : smaller_of c ≡ smaller_of d → larger_of c < larger_of d → Before c d
   by_first : smaller_of c ≡ smaller_of d → larger_of c ≡ larger_of d → first_of c < first_of d → Before c d
 
 -- the contact records of a tidy log: those of the unbroken runs, each once, in order: each comes before all that follow it

@@ -49,7 +49,7 @@ module _ {n T : ℕ} {ws : List ℕ} {base : ℕ} {least : Thresholds} (xs : Lis
       → (Has c k first last → ⊥) → ⊥
   surpassed-record c i k first last s a b d w o h =
       let e = (reportable c i).unsurpassed.none k first last s a b d w o in
-      h (record { its-order = omega (arith, e.0); its-first = omega (arith, e.1); its-last = omega (arith, e.2) })
+      h (record { its_order = omega (arith, e.0); its_first = omega (arith, e.1); its_last = omega (arith, e.2) })
 
   -- A record with fewer members than the least number, however many its core has.
   pub too-few-members : (c : SpanCore) → Mem c xs → size c.members < least.members → ⊥

@@ -135,7 +135,7 @@ module _ (call : List ℕ → List ℕ → ℕ → List ℕ → List ℕ → Joi
             some = s.tested.some;
             most = rw count s.tested.most;
             room = t.roomy;
-            work-room = rw (← records-count 0 (parts logs lengths) rss t.judged) t.enough;
+            work_room = rw (← records-count 0 (parts logs lengths) rss t.judged) t.enough;
           } in
           rw (parts-flat logs lengths s.tested.whole, parts-lengths logs lengths s.tested.whole) at (promised a)
 
@@ -169,7 +169,7 @@ module _ (call : List ℕ → List ℕ → ℕ → List ℕ → List ℕ → Joi
       let s = are-permuted a.are d in
       let e : length logs' ≡ length logs = permuted-length d in
       let b : JoinAsked n T q logs' s.contacts words work' =
-      record { are = s.are; several = omega (arith, a.several); few = omega (arith, a.few); some = a.some; most = omega (arith, a.most); room = a.room; work-room = rw e h } in
+      record { are = s.are; several = omega (arith, a.several); few = omega (arith, a.few); some = a.some; most = omega (arith, a.most); room = a.room; work_room = rw e h } in
       days-same (p.succeeds _ _ _ _ _ _ _ b).day (p.succeeds _ _ _ _ _ _ _ a).day a.room (λ t u v. (λ m. at-least-permuted (Permᴰ.symm s.order) m, λ m. at-least-permuted s.order m))
 
   -- At quorum 1 the words are those that reading a log of the contact records of all of them leaves.

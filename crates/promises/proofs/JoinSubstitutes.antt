@@ -27,7 +27,7 @@ use Rattle.records.proofs.Theorems.{log-accepted}
 use Rattle.days.specs.Days.{neighbours, tick_sets, day_sets, day_words}
 use Rattle.series.specs.Series.{parts, judge_logs, badges_in, ticks_in, have_size, day_size, all_size, judge_series, Size, common_size}
 use Rattle.receivers.specs.Joining.{sum, Joinable, joinable, judge_join, Join, join_of}
-use Rattle.promises.specs.Joining.{none, more, AtLeast, enough, counted, passed, MetBy, JoinAsked, OneSize, JoinRefusal, by-log, by-19, Joins}
+use Rattle.promises.specs.Joining.{none, more, AtLeast, enough, counted, passed, MetBy, JoinAsked, OneSize, JoinRefusal, by_log, by_19, Joins}
 use Rattle.promises.proofs.SmallLogs.{meeting, never, once, twice, bytes_of, never-log, once-log, twice-log, met}
 use Rattle.promises.proofs.Quorums.{some_of}
 use Rattle.promises.proofs.JoinTheorems.{joins}
@@ -59,7 +59,7 @@ abbrev lent_work : List ℕ
 lent_work = replicate (4 * set_words + 1) 7
 
 asked : {x y : List Record} → IsLog (bytes_of x) 2 1 x → IsLog (bytes_of y) 2 1 y → (q : ℕ) → 1 ≤ q → q ≤ 2 → JoinAsked 2 1 q (pair x y) (x ∷ y ∷ []) lent_words lent_work
-asked l m q h k = record { are = more l (more m none); several = omega arith; few = omega arith; some = h; most = k; room = omega arith; work-room = omega arith }
+asked l m q h k = record { are = more l (more m none); several = omega arith; few = omega arith; some = h; most = k; room = omega arith; work_room = omega arith }
 
 -- The contact 0–1 is set exactly where at least q of the two have it: it is where one has it at quorum 1, and is not at quorum 2 where the other is never.
 module _ (call : Call) (p : Joins call) where
@@ -197,11 +197,11 @@ logs-number at (log ∷ logs) number offset e = first (judge log) refl (logs-num
 
 module _ (call : Call) {logs lengths : List ℕ} {q : ℕ} {words work : List ℕ} (j : Joinable (length logs) lengths q) where
   pub late-number-first : {number offset : ℕ} → judge_logs 0 (parts logs lengths) ≡ refused number offset → (late at : ℕ) → 7 < late → (call logs lengths q words work).answer ≡ refused late at → Joins call → ⊥
-  late-number-first {number} {offset} e late at h f p = other-refusal call (by-log j e) (λ g. let z : late ≡ number = refused-number (sym f ∙ g) in omega (arith, logs-number 0 _ number offset e)) p
+  late-number-first {number} {offset} e late at h f p = other-refusal call (by_log j e) (λ g. let z : late ≡ number = refused-number (sym f ∙ g) in omega (arith, logs-number 0 _ number offset e)) p
 
   -- and 8 before 19.
   pub eight-before-nineteen : {all : List (List Record)} → judge_logs 0 (parts logs lengths) ≡ success all → (OneSize all → ⊥) → (call logs lengths q words work).answer ≡ refused 8 0 → Joins call → ⊥
-  eight-before-nineteen e o f p = other-refusal call (by-19 j e o) (λ g. let z : ◌≡◌ {A = ℕ} 8 19 = refused-number (sym f ∙ g) in omega arith) p
+  eight-before-nineteen e o f p = other-refusal call (by_19 j e o) (λ g. let z : ◌≡◌ {A = ℕ} 8 19 = refused-number (sym f ∙ g) in omega arith) p
 
 -- So with three logs, the second of three badges where the first has two, and the third of no byte, any call that answers 19.
 abbrev three_logs : List ℕ
@@ -219,7 +219,7 @@ nothing-refused = refl
 
 second-refused : JoinRefusal (bytes_of never ++ []) (length (bytes_of never) ∷ 0 ∷ []) 1 (length lent_words) (length lent_work) 1 10
 unfolding computing
-second-refused = by-log (record { several = omega arith; few = omega arith; some = omega arith; most = omega arith; whole = refl }) refl
+second-refused = by_log (record { several = omega arith; few = omega arith; some = omega arith; most = omega arith; whole = refl }) refl
 
 pub offset-from-own-start : (call : Call)
     → ((first second : List ℕ) (rs : List Record) (number offset q : ℕ) (words work : List ℕ) → 1 ≤ q → q ≤ 2 → judge first ≡ success rs → judge second ≡ refused number offset

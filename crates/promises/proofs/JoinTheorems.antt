@@ -45,7 +45,7 @@ use Rattle.receivers.specs.Joining.{sum, Joinable, joinable, quorum, joined_day,
 use Rattle.receivers.proofs.Sums.{joinable-of, joinable-in}
 use Rattle.receivers.proofs.Heard.{heard-some, heard-swap}
 use Rattle.receivers.proofs.JoinCall.{joining, join-parts, join-refused, join-success, Succeeded, succeeded}
-use Rattle.promises.specs.Joining.{AreLogs, none, more, MetBy, JoinAsked, HasJoined, JoinRefusal, by-18, by-log, by-19, by_8, Joins}
+use Rattle.promises.specs.Joining.{AreLogs, none, more, MetBy, JoinAsked, HasJoined, JoinRefusal, by_18, by_log, by_19, by_8, Joins}
 use Rattle.promises.specs.WrittenDays.{HasRuns, log_bytes, Writes}
 use Rattle.promises.specs.CoreNumbers.{GivesCoreNumbers}
 use Rattle.promises.proofs.Quorums.{some_of, heard-in, heard-of}
@@ -110,9 +110,9 @@ module _ {n T q : ℕ} {logs : List (List ℕ)} {all : List (List Record)} {word
       let judged : judge_logs 0 (parts (flatten logs) (map length logs)) ≡ success rss = ap (judge_logs 0) (parts_whole logs) ∙ are-accepted 0 a.are in
       let have : have_size (badges_in rss) (ticks_in rss) rss ≡ true = rw (b, t) (size-in n T rss (are-sized n T all)) in
       let room : day_size rss ≤ length words = rw (b, t) a.room in
-      let work-room : all_size rss ≤ length work = rw (b, t, lists, count) a.work-room in
+      let work_room : all_size rss ≤ length work = rw (b, t, lists, count) a.work_room in
       let j : Joinable (length (flatten logs)) (map length logs) q = record { several = omega arith; few = omega arith; some = a.some; most = omega arith; whole = sum-whole logs } in
-      join-success (flatten logs) (map length logs) q words work j rss (series-success _ _ _ rss judged have room work-room) ∙ rw (b, t, lists)
+      join-success (flatten logs) (map length logs) q words work j rss (series-success _ _ _ rss judged have room work_room) ∙ rw (b, t, lists)
 
   -- bit v of word t×n+u is set exactly when at least q of the logs have the contact
   same : (t u : ℕ) → t < T → u < n → neighbours n joined_words t u ≡ neighbours n (day_words n T (quorum q (map (log_records n T) all))) t u
@@ -136,7 +136,7 @@ module _ {n T q : ℕ} {logs : List (List ℕ)} {all : List (List Record)} {word
       let long : length day ≡ words_for n T = day-length n T (quorum q (map (log_records n T) all)) in
       let count = length all * words_for n T in
       let zeros : length {A = ℕ} (replicate count 0) ≡ count = length-replicate {A = ℕ} count 0 in
-      let work-room : count ≤ length work = rw (are-count a.are) a.work-room in
+      let work_room : count ≤ length work = rw (are-count a.are) a.work_room in
       let room : words_for n T ≤ length words = a.room in
       subst (HasJoined n T q all words work) (sym joined) (record {
         answers = refl;
@@ -157,9 +157,9 @@ module _ (logs lengths : List ℕ) (q : ℕ) (words work : List ℕ) where
   -- A call that there is cause to refuse is refused, and leaves every word as it was lent.
   refuses : (number offset : ℕ) → JoinRefusal logs lengths q (length words) (length work) number offset
       → join_of logs lengths q words work ≡ record { answer = refused number offset; words = words; work = work }
-  refuses number offset (by-18 f) = join-parts logs lengths q words work f
-  refuses number offset (by-log j e) = join-refused logs lengths q words work j number offset (series-refused _ _ _ number offset e)
-  refuses number offset (by-19 {all} j e f) = join-refused logs lengths q words work j 19 0 (series-different _ _ _ all e (to-false _ (λ s. f (size-of _ _ all s))))
+  refuses number offset (by_18 f) = join-parts logs lengths q words work f
+  refuses number offset (by_log j e) = join-refused logs lengths q words work j number offset (series-refused _ _ _ number offset e)
+  refuses number offset (by_19 {all} j e f) = join-refused logs lengths q words work j 19 0 (series-different _ _ _ all e (to-false _ (λ s. f (size-of _ _ all s))))
   refuses number offset (by_8 {all} j e o (inl h)) = join-refused logs lengths q words work j 8 0 (series-little _ _ _ all e (size-in _ _ all o) h)
   refuses number offset (by_8 {all} j e o (inr h)) =
       join-refused logs lengths q words work j 8 0 (by_cases (dec_lt (length words) (day_size all))
@@ -175,18 +175,18 @@ module _ (logs lengths : List ℕ) (q : ℕ) (words work : List ℕ) where
   decided = tested (joinable (length logs) lengths q) refl
     where
       sized : Joinable (length logs) lengths q → (all : List (List Record)) → judge_logs 0 (parts logs lengths) ≡ success all → (b : Bool) → have_size (badges_in all) (ticks_in all) all ≡ b → Decided
-      sized j all e false f = for-refusal (by-19 j e (λ o. clash (size-in _ _ all o) f))
+      sized j all e false f = for-refusal (by_19 j e (λ o. clash (size-in _ _ all o) f))
       sized j all e true f =
           by_cases (dec_lt (length words) (day_size all)) (λ h. for-refusal (by_8 j e (size-of _ _ all f) (inl h)))
           (λ h. by_cases (dec_lt (length work) (all_size all)) (λ k. for-refusal (by_8 j e (size-of _ _ all f) (inr k)))
           (λ k. for-day all (join-success logs lengths q words work j all (series-success _ _ _ all e f (omega arith) (omega arith)))))
 
       judged : Joinable (length logs) lengths q → (o : Outcome (List (List Record))) → judge_logs 0 (parts logs lengths) ≡ o → Decided
-      judged j (refused number offset) e = for-refusal (by-log j e)
+      judged j (refused number offset) e = for-refusal (by_log j e)
       judged j (success all) e = sized j all e (have_size (badges_in all) (ticks_in all) all) refl
 
       tested : (b : Bool) → joinable (length logs) lengths q ≡ b → Decided
-      tested false e = for-refusal (by-18 (λ j. clash (joinable-in _ _ _ j) e))
+      tested false e = for-refusal (by_18 (λ j. clash (joinable-in _ _ _ j) e))
       tested true e = judged (joinable-of _ _ _ e) (judge_logs 0 (parts logs lengths)) refl
 
   -- So it gives no other refusal.

@@ -22,7 +22,7 @@ use Rattle.spans.specs.Encoding.{form_of, record_bytes, plan_bytes, plan_records
 use Rattle.spans.specs.PlanStatement.{Runs, none, run, sum_of_orders, part_ends, PlanStatement, PlanAsked}
 use Rattle.spans.proofs.Forms.{form-narrow}
 use Rattle.spans.proofs.MostGroups.{plan-length}
-use Rattle.spans.proofs.PlanParts.{parts-stated, plan-ends}
+use Rattle.spans.proofs.PlanParts.{parts-stated, plan_ends}
 use Rattle.groups.specs.ShiftPlans.{PlansShifts}
 
 -- The statement leaves no choice of the sum: two lists of which it holds have the same;
@@ -82,7 +82,7 @@ module _ (call : ℕ → ℕ → List ℕ → ℕ → ℕ → ℕ → List ℕ �
   -- and the ends that its bytes say are the first of the best cuttings, by the scores
   pub ends_found : (size : ℕ) → (call n T ws base query h buffer).answer ≡ success size
       → part_ends (plan_records (take size (call n T ws base query h buffer).buffer)) ≡ best_ends (score_on n ws base query) T h
-  ends_found size g = ends_same _ _ (plan-kept size g) (parts-stated a) ∙ plan-ends a
+  ends_found size g = ends_same _ _ (plan-kept size g) (parts-stated a) ∙ plan_ends a
 
   pub ends-first : (size : ℕ) → (call n T ws base query h buffer).answer ≡ success size
       → IsFirstBest (score_on n ws base query) T h (part_ends (plan_records (take size (call n T ws base query h buffer).buffer)))

@@ -122,8 +122,8 @@ others-records = refl
 
 pair-new : (d : SpanCore) → Mem d (groups_of 4 3 d1_words (full 4)) → Has pair d.order d.first d.last → ⊥
 pair-new d i h = ⊎_elim
-    (λ e. omega (arith, h.its-order, ap (λ (x : SpanCore). x.order) e))
-    (λ j. omega (arith, h.its-last, ap (λ (x : SpanCore). x.last) (Memᴰ.eq_of_singleton j)))
+    (λ e. omega (arith, h.its_order, ap (λ (x : SpanCore). x.order) e))
+    (λ j. omega (arith, h.its_last, ap (λ (x : SpanCore). x.last) (Memᴰ.eq_of_singleton j)))
     (Memᴰ.cases_cons (rw d1-groups at i))
 
 -- No call whose records have orders and spans of the full report's cores alone, with whatever members.
@@ -142,11 +142,11 @@ among base c = with_members c (intersection c.members base)
 
 -- a record that differs from another in its members alone has the order and span that the other has
 with-has : {c : SpanCore} (d : SpanCore) {k first last : ℕ} (s : ℕ) → with_members d s ≡ c → Has d k first last → Has c k first last
-with-has d {k} {first} {last} s e h = subst (λ (x : SpanCore). Has x k first last) e (record { its-order = h.its-order; its-first = h.its-first; its-last = h.its-last })
+with-has d {k} {first} {last} s e h = subst (λ (x : SpanCore). Has x k first last) e (record { its_order = h.its_order; its_first = h.its_first; its_last = h.its_last })
 
 of-among : (base : ℕ) (cs : List SpanCore) {c : SpanCore} → Mem c (map (among base) cs) → (d : SpanCore) × Mem d cs × Has c d.order d.first d.last
 unfolding among
-of-among base cs i = let r = Memᴰ.of_map (among base) cs i in (r.0, r.1, with-has r.0 _ r.2 (record { its-order = refl; its-first = refl; its-last = refl }))
+of-among base cs i = let r = Memᴰ.of_map (among base) cs i in (r.0, r.1, with-has r.0 _ r.2 (record { its_order = refl; its_first = refl; its_last = refl }))
 
 pub filtered-members : (call : ℕ → ℕ → List ℕ → ℕ → Thresholds → List ℕ → Delivered)
     → ReportsGroups call (λ n T ws base least. kept least (map (among base) (shown_records n T ws (full n) plain))) → ⊥

@@ -31,7 +31,7 @@ use Rattle.logs.specs.Tidy.{run_start, run_ends, run_at, runs_of, row_runs, tidy
 use Rattle.logs.specs.Calls.{Tidied}
 use Rattle.logs.proofs.TidyForm.{tidy-unique}
 use Rattle.logs.proofs.TidyCount.{log-runs}
-use Rattle.promises.specs.Tidying.{SameMeaning, HasTidied, FoundShort, TidyRefusal, by-log, by_8, by-9, Tidies}
+use Rattle.promises.specs.Tidying.{SameMeaning, HasTidied, FoundShort, TidyRefusal, by_log, by_8, by_9, Tidies}
 use Rattle.promises.proofs.SmallLogs.{meeting, never, once, twice, bytes_of, never-log, once-log, twice-log, two, met}
 
 -- memory of so many bytes or words
@@ -190,24 +190,24 @@ module _ (read : List ℕ → List ℕ → Read) (tidy : List ℕ → List ℕ �
   tidy-warning e p = go (p.refuses log work buffer 16 offset e) refl
     where
       go : {k o : ℕ} → TidyRefusal log work buffer (tidied log) k o → k ≡ 16 → ⊥
-      go (by-log f) g = omega (arith, judge-number log _ _ f)
+      go (by_log f) g = omega (arith, judge-number log _ _ f)
       go (by_8 f h) g = omega arith
-      go (by-9 f h l) g = omega arith
+      go (by_9 f h l) g = omega arith
 
   -- 8 before the log is judged;
   pub tidy-8-first : (number at : ℕ) → judge log ≡ refused number at → (tidy log work buffer).answer ≡ refused 8 offset → Tidies read tidy tidied → ⊥
   tidy-8-first number at d e p = go (p.refuses log work buffer 8 offset e) refl
     where
       go : {k o : ℕ} → TidyRefusal log work buffer (tidied log) k o → k ≡ 8 → ⊥
-      go (by-log f) g = omega (arith, judge-number log _ _ f)
+      go (by_log f) g = omega (arith, judge-number log _ _ f)
       go (by_8 f h) g = refused-success (sym d ∙ f)
-      go (by-9 f h l) g = omega arith
+      go (by_9 f h l) g = omega arith
 
   -- 9 before the words are counted
   pub tidy-9-first : (rs : List Record) → judge log ≡ success rs → length work < words_for (badges_of rs) (ticks_of rs) → (tidy log work buffer).answer ≡ refused 9 offset → Tidies read tidy tidied → ⊥
   tidy-9-first rs d m e p = go (p.refuses log work buffer 9 offset e) refl
     where
       go : {k o : ℕ} → TidyRefusal log work buffer (tidied log) k o → k ≡ 9 → ⊥
-      go (by-log f) g = omega (arith, judge-number log _ _ f)
+      go (by_log f) g = omega (arith, judge-number log _ _ f)
       go (by_8 f h) g = omega arith
-      go (by-9 {rs = qs} f h l) g = let same : qs ≡ rs = success-same (sym f ∙ d) in let k : words_for (badges_of rs) (ticks_of rs) ≤ length work = rw same at h in omega arith
+      go (by_9 {rs = qs} f h l) g = let same : qs ≡ rs = success-same (sym f ∙ d) in let k : words_for (badges_of rs) (ticks_of rs) ≤ length work = rw same at h in omega arith

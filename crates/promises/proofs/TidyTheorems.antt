@@ -21,7 +21,7 @@ use Rattle.records.proofs.Theorems.{log-accepted, met-in, met_of, met-below, met
 use Rattle.days.specs.Days.{day_words}
 use Rattle.days.specs.Calls.{Read, read_of}
 use Rattle.days.proofs.Days.{day-same}
-use Rattle.days.proofs.ReadCall.{Case, log-refused, words-few, words-enough, case-of}
+use Rattle.days.proofs.ReadCall.{Case, log_refused, words_few, words_enough, case-of}
 use Rattle.logs.specs.Tidy.{tidy_contacts, tidy_log}
 use Rattle.logs.specs.Buffers.{Delivered, deliver}
 use Rattle.logs.specs.Calls.{tidy_before9, Tidied, tidy_of}
@@ -30,7 +30,7 @@ use Rattle.logs.proofs.TidyCount.{log-runs, tidy-count}
 use Rattle.logs.proofs.Delivering.{deliver-short, deliver-fits}
 use Rattle.logs.proofs.TidyCall.{log-same, before9-refused, before9-few, before9-enough, tidy-delivers}
 use Rattle.promises.specs.Reading.{HoldsDay}
-use Rattle.promises.specs.Tidying.{SameMeaning, HasTidied, FoundShort, Recovers, IsTidied, TidyRefusal, by-log, by_8, by-9, Tidies, tidied_judged, tidied_of}
+use Rattle.promises.specs.Tidying.{SameMeaning, HasTidied, FoundShort, Recovers, IsTidied, TidyRefusal, by_log, by_8, by_9, Tidies, tidied_judged, tidied_of}
 use Rattle.promises.proofs.ReadTheorems.{read_log, reads}
 
 -- the same meaning, one way round and the other, and of three logs
@@ -189,13 +189,13 @@ tidy-refuses log work buffer number offset e = go (case-of log work)
 
     measured : (rs : List Record) → judge log ≡ success rs → words_for (badges_of rs) (ticks_of rs) ≤ length work → (b : Bool) → ltb (length buffer) (length (tidied_of log)) ≡ b
         → (deliver (success (tidied_of log)) buffer).answer ≡ refused number offset → Refuses number offset
-    measured rs f h true k g = let short = ltb-true _ _ k in same (ap (λ (d : Delivered). d.answer) (sym (deliver-short (tidied_of log) buffer short)) ∙ g) (by-9 f h short)
+    measured rs f h true k g = let short = ltb-true _ _ k in same (ap (λ (d : Delivered). d.answer) (sym (deliver-short (tidied_of log) buffer short)) ∙ g) (by_9 f h short)
     measured rs f h false k g = absurd (refused-success (sym g ∙ ap (λ (d : Delivered). d.answer) (deliver-fits (tidied_of log) buffer (ltb-false _ _ k))))
 
     go : Case log work → Refuses number offset
-    go (log-refused k p f) = same (answer (before9-refused log work k p f)) (by-log f)
-    go (words-few rs f h) = same (answer (before9-few log work rs f h)) (by_8 f h)
-    go (words-enough rs f h) = measured rs f h _ refl (answer (before9-enough log work rs f h ∙ ap (λ (o : Outcome (List Record)). success (tidied_judged o)) (sym f)))
+    go (log_refused k p f) = same (answer (before9-refused log work k p f)) (by_log f)
+    go (words_few rs f h) = same (answer (before9-few log work rs f h)) (by_8 f h)
+    go (words_enough rs f h) = measured rs f h _ refl (answer (before9-enough log work rs f h ∙ ap (λ (o : Outcome (List Record)). success (tidied_judged o)) (sym f)))
 
 -- Tidying keeps its promise.
 pub tidies : Tidies read_of tidy_of tidied_of

@@ -22,7 +22,7 @@ use Rattle.days.specs.Days.{neighbours, is_tick, is_day}
 use Rattle.days.proofs.Scan.{day-of}
 use Rattle.logs.specs.Buffers.{Delivered}
 use Rattle.chains.specs.Chains.{Contact, Chain}
-use Rattle.chains.specs.Traces.{never, tick_in, source_in, Other, PassesOn, as-reached, IsTrace}
+use Rattle.chains.specs.Traces.{never, tick_in, source_in, Other, PassesOn, as_reached, IsTrace}
 use Rattle.chains.specs.Sweep.{overlap, spread, source_from, ticks_first, passing, newly, tick_after, source_after, trace_bytes}
 use Rattle.chains.specs.Judging.{StartOfDay}
 use Rattle.chains.proofs.TraceUnique.{tick-arrived, trace-only}
@@ -156,7 +156,7 @@ largest-source l x y =
     let g : tick_in l 2 ≡ 0 = ap (λ (k : List ℕ). tick_in k 2) e in
     let h : source_in 4 l 3 ≡ 1 = ap (λ (k : List ℕ). source_in 4 k 3) e in
     let c : Contact 4 2 two_sources_words 1 2 3 = record { tick = omega arith; one = omega arith; other = omega arith; meet = refl } in
-    let z = y.largest 3 2 (record { below = omega arith; apart = λ z. omega arith }) (omega arith) (subst (λ (t : ℕ). Contact 4 2 two_sources_words t 2 3) (sym f) c) (as-reached (omega arith)) in
+    let z = y.largest 3 2 (record { below = omega arith; apart = λ z. omega arith }) (omega arith) (subst (λ (t : ℕ). Contact 4 2 two_sources_words t 2 3) (sym f) c) (as_reached (omega arith)) in
     omega arith
 
 pub largest-source-call : NoCall SourcesLargest

@@ -36,9 +36,9 @@ use Rattle.promises.specs.Tracing.{TracesLogs}
 
 -- what a call is judged by, whatever was handed over and lent
 data Judged (n T : ℕ) (ws : List ℕ) (index s : ℕ) (buffer : List ℕ) : Type 0 where
-  by-check : (number offset : ℕ) → check_of n T ws ≡ refused number offset → Judged n T ws index s buffer
-  by-22 : LentDay n T ws → ((index < n) × (s < T) → ⊥) → Judged n T ws index s buffer
-  by-9 : StartOfDay n T ws index s → length buffer < n + n → Judged n T ws index s buffer
+  by_check : (number offset : ℕ) → check_of n T ws ≡ refused number offset → Judged n T ws index s buffer
+  by_22 : LentDay n T ws → ((index < n) × (s < T) → ⊥) → Judged n T ws index s buffer
+  by_9 : StartOfDay n T ws index s → length buffer < n + n → Judged n T ws index s buffer
   passed : StartOfDay n T ws index s → n + n ≤ length buffer → Judged n T ws index s buffer
 
 judged : (n T : ℕ) (ws : List ℕ) (index s : ℕ) (buffer : List ℕ) → Judged n T ws index s buffer
@@ -48,12 +48,12 @@ judged n T ws index s buffer = go (check_of n T ws) refl
     started d =
         by_cases (dec_lt index n)
         (λ h. by_cases (dec_lt s T)
-        (λ k. let a : StartOfDay n T ws index s = record { lent = d; badge = h; tick = k } in by_cases (dec_lt (length buffer) (n + n)) (λ l. by-9 a l) (λ l. passed a (omega arith)))
-        (λ k. by-22 d (λ p. k p.1)))
-        (λ h. by-22 d (λ p. h p.0))
+        (λ k. let a : StartOfDay n T ws index s = record { lent = d; badge = h; tick = k } in by_cases (dec_lt (length buffer) (n + n)) (λ l. by_9 a l) (λ l. passed a (omega arith)))
+        (λ k. by_22 d (λ p. k p.1)))
+        (λ h. by_22 d (λ p. h p.0))
 
     go : (o : Outcome (Unit {0})) → check_of n T ws ≡ o → Judged n T ws index s buffer
-    go (refused number offset) e = by-check number offset e
+    go (refused number offset) e = by_check number offset e
     go (success x) e = started (check-passed n T ws e)
 
 -- Words that the check judges alike, and that have the same contacts, are answered alike by two calls that keep the promise, whatever else was handed over
@@ -74,9 +74,9 @@ module _ {call other : ℕ → ℕ → List ℕ → ℕ → ℕ → List ℕ →
       same_bytes d = trace-unique n index s (λ t u v c. c.one) (trace-map there back (p.stated n T xs index s d)) (q.stated n T ys index s (started d))
 
       go : Judged n T xs index s buffer → call n T xs index s buffer ≡ other n T ys index s buffer
-      go (by-check number offset e) = p.checks n T xs index s buffer number offset e ∙ sym (q.checks n T ys index s buffer number offset (sym same ∙ e))
-      go (by-22 d f) = p.judges n T xs index s buffer d f ∙ sym (q.judges n T ys index s buffer (moved d) f)
-      go (by-9 d h) = p.measures n T xs index s buffer d h ∙ sym (q.measures n T ys index s buffer (started d) h)
+      go (by_check number offset e) = p.checks n T xs index s buffer number offset e ∙ sym (q.checks n T ys index s buffer number offset (sym same ∙ e))
+      go (by_22 d f) = p.judges n T xs index s buffer d f ∙ sym (q.judges n T ys index s buffer (moved d) f)
+      go (by_9 d h) = p.measures n T xs index s buffer d h ∙ sym (q.measures n T ys index s buffer (started d) h)
       go (passed d h) =
           p.succeeds n T xs index s buffer d h ∙ ap (λ (x : List ℕ). record { answer = success (n + n); buffer = x ++ drop (n + n) buffer }) (same_bytes d) ∙ sym (q.succeeds n T ys index s buffer (started d) h)
 

@@ -33,7 +33,7 @@ pub record JoinAsked (n T q : ℕ) (logs : List (List ℕ)) (all : List (List Re
   pub some : 1 ≤ q
   pub most : q ≤ length logs
   pub room : words_for n T ≤ length words
-  pub work-room : length logs * words_for n T ≤ length work
+  pub work_room : length logs * words_for n T ≤ length work
 
 -- work words that are left zero up to a count, and as they were lent from there on
 pub record Cleared (count : ℕ) (lent work : List ℕ) : Type 0 where
@@ -55,9 +55,9 @@ OneSize all = AllSized (badges_in all) (ticks_in all) all
 -- The refusals of a join in their order: 18; that of the first log that is refused; "19, n or T differs from the first log, judged after all logs
 -- pass and before 8"; 8 where there are fewer day words than n×T, or fewer work words than that for each log. So many of both are lent.
 pub data JoinRefusal (logs lengths : List ℕ) (q words work : ℕ) : ℕ → ℕ → Type 0 where
-  by-18 : (Joinable (length logs) lengths q → ⊥) → JoinRefusal logs lengths q words work 18 0
-  by-log : {number offset : ℕ} → Joinable (length logs) lengths q → judge_logs 0 (parts logs lengths) ≡ refused number offset → JoinRefusal logs lengths q words work number offset
-  by-19 : {all : List (List Record)} → Joinable (length logs) lengths q → judge_logs 0 (parts logs lengths) ≡ success all → (OneSize all → ⊥) → JoinRefusal logs lengths q words work 19 0
+  by_18 : (Joinable (length logs) lengths q → ⊥) → JoinRefusal logs lengths q words work 18 0
+  by_log : {number offset : ℕ} → Joinable (length logs) lengths q → judge_logs 0 (parts logs lengths) ≡ refused number offset → JoinRefusal logs lengths q words work number offset
+  by_19 : {all : List (List Record)} → Joinable (length logs) lengths q → judge_logs 0 (parts logs lengths) ≡ success all → (OneSize all → ⊥) → JoinRefusal logs lengths q words work 19 0
   by_8 : {all : List (List Record)} → Joinable (length logs) lengths q → judge_logs 0 (parts logs lengths) ≡ success all → OneSize all
       → (words < day_size all) ⊎ (work < all_size all) → JoinRefusal logs lengths q words work 8 0
 

@@ -49,9 +49,9 @@ pub record IsTidied (n T : ℕ) (cts : List Record) (bytes : List ℕ) : Type 0 
 -- The refusals of tidy, by number and offset, in their order, "log, 8, 9": that of the log; 8 where the log is accepted and there are too few
 -- words; 9 where it is accepted, there are words enough, and the buffer is shorter than the tidy log.
 pub data TidyRefusal (log work buffer tidied : List ℕ) : ℕ → ℕ → Type 0 where
-  by-log : {number offset : ℕ} → judge log ≡ refused number offset → TidyRefusal log work buffer tidied number offset
+  by_log : {number offset : ℕ} → judge log ≡ refused number offset → TidyRefusal log work buffer tidied number offset
   by_8 : {rs : List Record} → judge log ≡ success rs → length work < words_for (badges_of rs) (ticks_of rs) → TidyRefusal log work buffer tidied 8 0
-  by-9 : {rs : List Record} → judge log ≡ success rs → words_for (badges_of rs) (ticks_of rs) ≤ length work → length buffer < length tidied → TidyRefusal log work buffer tidied 9 0
+  by_9 : {rs : List Record} → judge log ≡ success rs → words_for (badges_of rs) (ticks_of rs) ≤ length work → length buffer < length tidied → TidyRefusal log work buffer tidied 9 0
 
 -- A call that tidies every log, making these bytes of each:
 pub record Tidies (read : List ℕ → List ℕ → Read) (tidy : List ℕ → List ℕ → List ℕ → Tidied) (tidied : List ℕ → List ℕ) : Type 0 where

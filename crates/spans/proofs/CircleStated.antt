@@ -19,7 +19,7 @@ use Rattle.spans.specs.Contacts.{fellows}
 use Rattle.spans.specs.SpanCores.{SpanCore, Mem}
 use Rattle.spans.specs.KeptGroups.{kept}
 use Rattle.spans.specs.CircleRecords.{with_members, circles_of, circle_records, shown_records}
-use Rattle.spans.specs.GroupStatement.{Unsurpassed, CircleOn, Reportable, Before, by_first, by_last, by-member, GroupStatement}
+use Rattle.spans.specs.GroupStatement.{Unsurpassed, CircleOn, Reportable, Before, by_first, by_last, by_member, GroupStatement}
 use Rattle.spans.specs.CoreStatement.{Has, CoreStatement}
 use Rattle.spans.proofs.SpanCircles.{day-small, span-symmetric, circle-fellows, fellows-circle}
 use Rattle.spans.proofs.KeptRecords.{meets-in, meets-of, in_kept, of-kept, kept-pairwise}
@@ -32,7 +32,7 @@ before-parts : {c d : SpanCore} → Before c d
     → (c.first ≤ d.first) × (c.first ≡ d.first → (c.last ≤ d.last) × (c.last ≡ d.last → smallest capacity c.members < smallest capacity d.members))
 before-parts (by_first h) = (omega arith, λ e. absurd (omega arith))
 before-parts (by_last e h) = (omega arith, λ e'. (omega arith, λ f. absurd (omega arith)))
-before-parts (by-member e f h) = (omega arith, λ e'. (omega arith, λ f'. h))
+before-parts (by_member e f h) = (omega arith, λ e'. (omega arith, λ f'. h))
 
 before-asymmetric : {c d : SpanCore} → Before c d → Before d c → ⊥
 before-asymmetric {c} {d} p q =
@@ -87,7 +87,7 @@ module _ {n T : ℕ} {ws : List ℕ} {base : ℕ} {groups : List SpanCore} (lent
       let x = of-circle-records n ws groups k.0 in
       let c = x.0 in
       let s = g.span c x.1 in
-      let u = (plain-exactly g c.order c.first c.last (g.order c x.1) s.0 s.1).0 (c, x.1, record { its-order = refl; its-first = refl; its-last = refl }) in
+      let u = (plain-exactly g c.order c.first c.last (g.order c x.1) s.0 s.1).0 (c, x.1, record { its_order = refl; its_first = refl; its_last = refl }) in
       record {
         unsurpassed = subst (λ (z : SpanCore). Unsurpassed n T ws base z.order z.first z.last) x.2.same u;
         long = m.0;
@@ -104,9 +104,9 @@ module _ {n T : ℕ} {ws : List ℕ} {base : ℕ} {groups : List SpanCore} (lent
     where
       go : ((c : SpanCore) × Mem c groups × Has c k first last) → Mem (record { order = k; first = first; last = last; members = s }) (circle_records n ws groups)
       go (c, i, h) =
-          let o : CircleOn n ws base c.order c.first c.last s = rw (h.its-order, h.its-first, h.its-last) p.circle in
+          let o : CircleOn n ws base c.order c.first c.last s = rw (h.its_order, h.its_first, h.its_last) p.circle in
           let j : Mem (with_members c s) (circle_records n ws groups) = in-circle-records n ws groups i (in-records-of n ws c s (on-circle lent r g c i s o)) in
-          rw (h.its-order, h.its-first, h.its-last) at j
+          rw (h.its_order, h.its_first, h.its_last) at j
 
   -- The statement holds of the records that are kept.
   pub circles-stated : Pairwise Earlier groups → GroupStatement n T ws base least (kept least (circle_records n ws groups))

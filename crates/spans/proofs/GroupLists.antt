@@ -121,14 +121,14 @@ groups-stated n T ws base least lent r = record {
   order = λ c i. (group-parts n T ws base _ _ _ (shown c i).group).0;
   span = λ c i. ((shown c i).rising, (shown c i).inside);
   exactly = λ k first last l m w. (
-    λ x. let e = passes_of lent r least x.0 (shown x.0 x.1) (of-kept least _ x.1).1 in let h = x.2 in rw (h.its-order, h.its-first, h.its-last) at e,
+    λ x. let e = passes_of lent r least x.0 (shown x.0 x.1) (of-kept least _ x.1).1 in let h = x.2 in rw (h.its_order, h.its_first, h.its_last) at e,
     λ u. (
       record { order = k; first = first; last = last; members = core_on n ws base k first last },
       in_kept least _ (in-groups n T ws base k first last m w (unsurpassed-in lent r k first last l m w u.0)) (passes-in lent r least k first last m w u.1),
-      record { its-order = refl; its-first = refl; its-last = refl },
+      record { its_order = refl; its_first = refl; its_last = refl },
     ),
   );
-  once = λ xs ys zs c d e h. earlier-apart (pairwise-two xs ys zs c d (rw e at (kept-pairwise least _ (groups-earlier n T ws base)))) h.its-first h.its-last;
+  once = λ xs ys zs c d e h. earlier-apart (pairwise-two xs ys zs c d (rw e at (kept-pairwise least _ (groups-earlier n T ws base)))) h.its_first h.its_last;
   members = λ c i. shown-order lent r least (shown c i);
   largest = λ c t i o. let s = shown c i in rw s.members (order-sub (span lent r s.rising s.inside) r c.order t o);
 }

@@ -17,12 +17,12 @@ use Rattle.spans.proofs.Maximal.{groups-on}
 
 -- a core comes before another by first tick and then last tick, so they differ in these
 pub data Earlier (c d : SpanCore) : Type 0 where
-  first-rises : c.first < d.first → Earlier c d
-  last-rises : c.first ≡ d.first → c.last < d.last → Earlier c d
+  first_rises : c.first < d.first → Earlier c d
+  last_rises : c.first ≡ d.first → c.last < d.last → Earlier c d
 
 pub earlier-apart : {c d : SpanCore} → Earlier c d → c.first ≡ d.first → c.last ≡ d.last → ⊥
-earlier-apart (first-rises l) e f = omega arith
-earlier-apart (last-rises g l) e f = omega arith
+earlier-apart (first_rises l) e f = omega arith
+earlier-apart (last_rises g l) e f = omega arith
 
 module _ (n T : ℕ) (ws : List ℕ) (base : ℕ) where
   -- the ticks of the cores on a span, and of those with a first tick
@@ -49,10 +49,10 @@ module _ (n T : ℕ) (ws : List ℕ) (base : ℕ) where
   pub line-earlier : (first : ℕ) → Pairwise Earlier (groups_from n T ws base first)
   unfolding groups_from
   line-earlier first = pairwise-concat T _ (λ last w. cell-one first last w)
-      (λ i j a b x y p q. let c = of-cell first i x p in let d = of-cell first j y q in last-rises (omega (arith, c.0, d.0)) (omega (arith, c.1, d.1)))
+      (λ i j a b x y p q. let c = of-cell first i x p in let d = of-cell first j y q in last_rises (omega (arith, c.0, d.0)) (omega (arith, c.1, d.1)))
 
   -- and all by first tick
   pub groups-earlier : Pairwise Earlier (groups_of n T ws base)
   unfolding groups_of
   groups-earlier = pairwise-concat T (groups_from n T ws base) (λ first l. line-earlier first)
-      (λ i j a b x y p q. first-rises (omega (arith, of-line i x p, of-line j y q)))
+      (λ i j a b x y p q. first_rises (omega (arith, of-line i x p, of-line j y q)))

@@ -122,7 +122,7 @@ module _ {n T : ℕ} {ws : List ℕ} {base : ℕ} (lent : LentDay n T ws) (r : S
         let x : GroupStatement n T ws base least (shown_records n T ws base least) = report-stated lent r in
         let s = x.span d j in
         let p = (x.exactly d.order d.first d.last d.members (x.order d j) s.0 s.1).0 j in
-        let o : CircleOn n ws base c.order c.first c.last d.members = rw (k.its-order, k.its-first, k.its-last) at p.circle in
+        let o : CircleOn n ws base c.order c.first c.last d.members = rw (k.its_order, k.its_first, k.its_last) at p.circle in
         (on-circle lent r (cores-stated lent r) c i d.members o, p.many)
 
     -- "under least members it is shown by just the circles that pass,"
@@ -130,7 +130,7 @@ module _ {n T : ℕ} {ws : List ℕ} {base : ℕ} (lent : LentDay n T ws) (r : S
         → (s : ℕ) → Mem (with_members c s) (shown_records n T ws base least) ↔ (Memᴰ s (circles_of n ws c) × (least.members ≤ size s))
     unfolding shown_records
     shown_by l h s = (
-      λ j. record-of-core (with_members c s) j (record { its-order = refl; its-first = refl; its-last = refl }),
+      λ j. record-of-core (with_members c s) j (record { its_order = refl; its_first = refl; its_last = refl }),
       λ q. in_kept least _ (in-circle-records n ws _ i (in-records-of n ws c s q.0)) (meets-in least (with_members c s) l h q.1),
     )
 

@@ -31,7 +31,7 @@ use Rattle.spans.proofs.OrderSets.{order-cohesive}
 use Rattle.spans.proofs.SpanCircles.{span-symmetric, span-irreflexive}
 use Rattle.spans.proofs.Maximal.{maximal-of}
 use Rattle.spans.proofs.KeptRecords.{kept-le}
-use Rattle.spans.proofs.GroupOrder.{Earlier, first-rises, last-rises, of-line, line-earlier}
+use Rattle.spans.proofs.GroupOrder.{Earlier, first_rises, last_rises, of-line, line-earlier}
 use Rattle.spans.proofs.GroupLists.{Shown, of-groups, group-few, group-parts, cores-stated}
 use Rattle.spans.proofs.RecordLists.{circle-records-concat}
 use Rattle.spans.proofs.CircleStated.{core-span, core-inside, core-small, report-stated}
@@ -114,8 +114,8 @@ core-few {n} {T} {ws} {base} lent r g c i =
 module _ {n T : ℕ} {ws : List ℕ} {base : ℕ} (lent : LentDay n T ws) (r : Sub base (full n)) where
   -- of two maximal cores with the same first tick, the one with the later last tick has the lower order: the other is not as large
   order-falls : (c d : SpanCore) → Shown n T ws base c → Shown n T ws base d → c.first ≡ d.first → Earlier c d → d.order < c.order
-  order-falls c d x y e (first-rises l) = absurd (omega arith)
-  order-falls c d x y e (last-rises f l) = by_cases (dec_lt d.order c.order) (λ h. h) (λ h.
+  order-falls c d x y e (first_rises l) = absurd (omega arith)
+  order-falls c d x y e (last_rises f l) = by_cases (dec_lt d.order c.order) (λ h. h) (λ h.
       let p = group-parts n T ws base c.order c.first c.last x.group in
       let q = group-parts n T ws base d.order d.first d.last y.group in
       let s = maximal-of n T ws base c.order c.first c.last p.2 d.order d.first d.last y.rising y.inside (omega arith) (omega arith) (omega arith) q.1 in
@@ -139,15 +139,15 @@ module _ {n T : ℕ} {ws : List ℕ} {base : ℕ} (lent : LentDay n T ws) (r : S
       shown c i = of-groups n T ws base c (in-groups c i)
 
   -- those of all cores no more than that for each tick, and those kept no more than all
-  pub records-few : (least : Thresholds) → length (shown_records n T ws base least) ≤ most_records n T
+  pub records_few : (least : Thresholds) → length (shown_records n T ws base least) ≤ most_records n T
   unfolding shown_records groups_of
-  records-few least =
+  records_few least =
       let all : length (circle_records n ws (groups_of n T ws base)) ≤ most_records n T = rw (circle-records-concat n ws T (groups_from n T ws base)) (concat-le _ (circles_up_to n n) T line-records) in
       le_trans (kept-le least _) all
 
   -- So long a report of the day is at most, and so long any report.
   pub report-most-for : (least : Thresholds) → length (report_bytes n T (shown_records n T ws base least)) ≤ 10 + record_bytes n * most_records n T
-  report-most-for least = omega (arith, report-length n T (shown_records n T ws base least), mul-le-mul_left (record_bytes n) (records-few least))
+  report-most-for least = omega (arith, report-length n T (shown_records n T ws base least), mul-le-mul_left (record_bytes n) (records_few least))
 
   pub report-most : (least : Thresholds) → length (report_bytes n T (shown_records n T ws base least)) ≤ max_report_bytes
   report-most least =
@@ -159,4 +159,4 @@ module _ {n T : ℕ} {ws : List ℕ} {base : ℕ} (lent : LentDay n T ws) (r : S
   pub shown-said : (least : Thresholds) → report_records (report_bytes n T (shown_records n T ws base least)) ≡ shown_records n T ws base least
   shown-said least =
       let l = limits_of lent.limits in
-      report-said n T (shown_records n T ws base least) (omega (arith, l.few)) (records-small r (report-stated lent r)) (omega (arith, records-few least, most-small l.few l.short))
+      report-said n T (shown_records n T ws base least) (omega (arith, l.few)) (records-small r (report-stated lent r)) (omega (arith, records_few least, most-small l.few l.short))

@@ -160,13 +160,13 @@ module _ {n T : ℕ} {ws : List ℕ} {base query h : ℕ} (a : PlanAsked n T ws 
   unfolding parts_of
   plan-chosen p i = rw (parts_are n ws base query 0 (best_ends (score_on n ws base query) T h) p i) (part-chosen query (span (runs-span plan-runs p i)) a.reviewed a.named)
 
-  plan-sum : sum_of_orders (parts_of n T ws base query h) ≡ total (score_on n ws base query) 0 (best_ends (score_on n ws base query) T h)
+  plan_sum : sum_of_orders (parts_of n T ws base query h) ≡ total (score_on n ws base query) 0 (best_ends (score_on n ws base query) T h)
   unfolding parts_of
-  plan-sum = parts-sum n ws base query 0 (best_ends (score_on n ws base query) T h)
+  plan_sum = parts-sum n ws base query 0 (best_ends (score_on n ws base query) T h)
 
-  pub plan-ends : part_ends (parts_of n T ws base query h) ≡ best_ends (score_on n ws base query) T h
+  pub plan_ends : part_ends (parts_of n T ws base query h) ≡ best_ends (score_on n ws base query) T h
   unfolding parts_of
-  plan-ends = parts-ends n ws base query 0 (best_ends (score_on n ws base query) T h)
+  plan_ends = parts-ends n ws base query 0 (best_ends (score_on n ws base query) T h)
 
   -- any other cutting with sets: its ends cut the ticks, and its sum is no more than that of the scores of its runs
   module _ (others : List SpanCore) (x : CuttingWithSets n T ws base query h others) where
@@ -182,7 +182,7 @@ module _ {n T : ℕ} {ws : List ℕ} {base query h : ℕ} (a : PlanAsked n T ws 
 
     -- so it is a best cutting where its sum is the plan's
     other-best : sum_of_orders others ≡ sum_of_orders (parts_of n T ws base query h) → IsBest (score_on n ws base query) T h (part_ends others)
-    other-best e = record { cutting = other-cutting; greatest = λ es c. omega (arith, ends-first.best.greatest es c, other-sum, plan-sum) }
+    other-best e = record { cutting = other-cutting; greatest = λ es c. omega (arith, ends-first.best.greatest es c, other-sum, plan_sum) }
 
   -- there are h parts, with members that fit a set
   pub plan-count : length (parts_of n T ws base query h) ≡ h
@@ -202,6 +202,6 @@ module _ {n T : ℕ} {ws : List ℕ} {base query h : ℕ} (a : PlanAsked n T ws 
       holds = λ p i. (plan-chosen p i).holds;
       least = λ p i. (plan-chosen p i).least;
     };
-    greatest = λ others x. omega (arith, plan-sum, other-sum others x, ends-first.best.greatest (part_ends others) (other-cutting others x));
-    first = λ others x e. rw plan-ends (ends-first.first (part_ends others) (other-best others x e));
+    greatest = λ others x. omega (arith, plan_sum, other-sum others x, ends-first.best.greatest (part_ends others) (other-cutting others x));
+    first = λ others x e. rw plan_ends (ends-first.first (part_ends others) (other-best others x e));
   }

@@ -11,8 +11,8 @@ use Rattle.circles.proofs.CircleLists.{circles-rise}
 use Rattle.spans.specs.Spans.{span_neighbours}
 use Rattle.spans.specs.SpanCores.{SpanCore, Mem}
 use Rattle.spans.specs.CircleRecords.{with_members, circles_of, records_of, circle_records}
-use Rattle.spans.specs.GroupStatement.{Before, by_first, by_last, by-member}
-use Rattle.spans.proofs.GroupOrder.{Earlier, first-rises, last-rises}
+use Rattle.spans.specs.GroupStatement.{Before, by_first, by_last, by_member}
+use Rattle.spans.proofs.GroupOrder.{Earlier, first_rises, last_rises}
 
 -- d is one of the records of core c: it shows a circle of c, with the order and span of c
 pub record RecordOf (n : ℕ) (ws : List ℕ) (c d : SpanCore) : Type 0 where
@@ -55,12 +55,12 @@ module _ (n : ℕ) (ws : List ℕ) where
   -- The records of a core stand by smallest member,
   records-sorted : (c : SpanCore) → c.members < 2 ^ capacity → Pairwise Before (records_of n ws c)
   unfolding records_of circles_of
-  records-sorted c w = pairwise_map (with_members c) (pairwise-weaken (λ s t i j l. by-member refl refl l) (circles-rise (span_neighbours n ws c.first c.last) c.members w))
+  records-sorted c w = pairwise_map (with_members c) (pairwise-weaken (λ s t i j l. by_member refl refl l) (circles-rise (span_neighbours n ws c.first c.last) c.members w))
 
   -- those of an earlier core before those of a later,
   records-before : {b c x y : SpanCore} → Earlier b c → RecordOf n ws b x → RecordOf n ws c y → Before x y
-  records-before (first-rises l) p q = rw (← p.same, ← q.same) (by_first l)
-  records-before (last-rises e l) p q = rw (← p.same, ← q.same) (by_last e l)
+  records-before (first_rises l) p q = rw (← p.same, ← q.same) (by_first l)
+  records-before (last_rises e l) p q = rw (← p.same, ← q.same) (by_last e l)
 
   -- so all stand in order
   pub circle-records-sorted : (cs : List SpanCore) → ((c : SpanCore) → Mem c cs → c.members < 2 ^ capacity) → Pairwise Earlier cs → Pairwise Before (circle_records n ws cs)

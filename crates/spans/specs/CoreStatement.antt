@@ -17,9 +17,9 @@ pub record LargeEnough (n : ℕ) (ws : List ℕ) (base : ℕ) (least : Threshold
 
 -- a record of a given order and span
 pub record Has (c : SpanCore) (k first last : ℕ) : Type 0 where
-  pub its-order : c.order ≡ k
-  pub its-first : c.first ≡ first
-  pub its-last : c.last ≡ last
+  pub its_order : c.order ≡ k
+  pub its_first : c.first ≡ first
+  pub its_last : c.last ≡ last
 
 -- "The group statement is then about the records that pass."
 pub record CoreStatement (n T : ℕ) (ws : List ℕ) (base : ℕ) (least : Thresholds) (groups : List SpanCore) : Type 0 where

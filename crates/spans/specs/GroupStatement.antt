@@ -45,7 +45,7 @@ pub record Reportable (n T : ℕ) (ws : List ℕ) (base : ℕ) (least : Threshol
 pub data Before (c d : SpanCore) : Type 0 where
   by_first : c.first < d.first → Before c d
   by_last : c.first ≡ d.first → c.last < d.last → Before c d
-  by-member : c.first ≡ d.first → c.last ≡ d.last → smallest capacity c.members < smallest capacity d.members → Before c d
+  by_member : c.first ≡ d.first → c.last ≡ d.last → smallest capacity c.members < smallest capacity d.members → Before c d
 
 pub record GroupStatement (n T : ℕ) (ws : List ℕ) (base : ℕ) (least : Thresholds) (records : List SpanCore) : Type 0 where
   -- every record has an order of at least 1 and a span of the day

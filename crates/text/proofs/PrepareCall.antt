@@ -12,7 +12,7 @@ use Rattle.records.proofs.Accepting.{accepted-of}
 use Rattle.records.proofs.Outcomes.{refused-success, success-same}
 use Rattle.records.proofs.WithinLimits.{limits_of}
 use Rattle.days.specs.Calls.{Read, read_of}
-use Rattle.days.proofs.ReadCall.{read-refused, read-few, read-success, Case, log-refused, words-few, words-enough, case-of}
+use Rattle.days.proofs.ReadCall.{read-refused, read-few, read-success, Case, log_refused, words_few, words_enough, case-of}
 use Rattle.thresholds.specs.Ranges.{plain}
 use Rattle.groups.specs.Calls.{report_of}
 use Rattle.text.specs.Calls.{reported, prepare_of}
@@ -26,9 +26,9 @@ read-badges log words v e = go (case-of log words)
     answers g = sym (ap (λ (y : Read). y.answer) g) ∙ e
 
     go : Case log words → v.badges ≤ capacity
-    go (log-refused a b f) = absurd (refused-success (answers (read-refused log words a b f)))
-    go (words-few rs f h) = absurd (refused-success (answers (read-few log words rs f h)))
-    go (words-enough rs f h) =
+    go (log_refused a b f) = absurd (refused-success (answers (read-refused log words a b f)))
+    go (words_few rs f h) = absurd (refused-success (answers (read-few log words rs f h)))
+    go (words_enough rs f h) =
         let g : values_of rs ≡ v = success-same (answers (read-success log words rs f h)) in
         omega (arith, (limits_of (accepted-of 0 log rs f).limits).few, ap (λ (x : Values). x.badges) g)
 

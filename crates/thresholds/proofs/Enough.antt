@@ -20,12 +20,12 @@ module _ (least : Thresholds) where
 
 -- the test for the ranges passes exactly when the three numbers are within them
 pub record Ranges (least : Thresholds) : Type 0 where
-  pub ticks-low : 1 ≤ least.ticks
-  pub ticks-high : least.ticks ≤ max_ticks
-  pub order-low : 1 ≤ least.order
-  pub order-high : least.order ≤ max_badges - 1
-  pub members-low : 2 ≤ least.members
-  pub members-high : least.members ≤ max_badges
+  pub ticks_low : 1 ≤ least.ticks
+  pub ticks_high : least.ticks ≤ max_ticks
+  pub order_low : 1 ≤ least.order
+  pub order_high : least.order ≤ max_badges - 1
+  pub members_low : 2 ≤ least.members
+  pub members_high : least.members ≤ max_badges
 
 pub ranges-of : (least : Thresholds) → in_range least ≡ true → Ranges least
 unfolding in_range
@@ -35,16 +35,16 @@ ranges-of least e =
     let b = and_right _ _ p in
     let c = and_right _ _ e in
     record {
-      ticks-low = leb-true _ _ (and_left _ _ a);
-      ticks-high = leb-true _ _ (and_right _ _ a);
-      order-low = leb-true _ _ (and_left _ _ b);
-      order-high = leb-true _ _ (and_right _ _ b);
-      members-low = leb-true _ _ (and_left _ _ c);
-      members-high = leb-true _ _ (and_right _ _ c);
+      ticks_low = leb-true _ _ (and_left _ _ a);
+      ticks_high = leb-true _ _ (and_right _ _ a);
+      order_low = leb-true _ _ (and_left _ _ b);
+      order_high = leb-true _ _ (and_right _ _ b);
+      members_low = leb-true _ _ (and_left _ _ c);
+      members_high = leb-true _ _ (and_right _ _ c);
     }
 
 pub ranges_in : (least : Thresholds) → Ranges least → in_range least ≡ true
 unfolding in_range
 ranges_in least r =
-    and_in _ _ (and_in _ _ (and_in _ _ (le-leb _ _ r.ticks-low) (le-leb _ _ r.ticks-high)) (and_in _ _ (le-leb _ _ r.order-low) (le-leb _ _ r.order-high)))
-    (and_in _ _ (le-leb _ _ r.members-low) (le-leb _ _ r.members-high))
+    and_in _ _ (and_in _ _ (and_in _ _ (le-leb _ _ r.ticks_low) (le-leb _ _ r.ticks_high)) (and_in _ _ (le-leb _ _ r.order_low) (le-leb _ _ r.order_high)))
+    (and_in _ _ (le-leb _ _ r.members_low) (le-leb _ _ r.members_high))

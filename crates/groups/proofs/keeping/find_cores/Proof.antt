@@ -36,7 +36,7 @@ unfolding from_words
 find-line-requires c κs =
     let i = c.before.before.before.before in
     let s = i.before.loop.invariant in
-    (s.lent, s.reviewed, i.loop-test.true, s.before, s.members-size, s.circles-size, s.large-size)
+    (s.lent, s.reviewed, i.loop-test.true, s.before, s.members_size, s.circles_size, s.large_size)
 
 slice-aggregate-keep-line : tie.Need-slice-aggregate-keep-line invariant-loop decreases-loop
 slice-aggregate-keep-line c = search rules
@@ -78,7 +78,7 @@ loop-again c =
     so-far-next i.before.loop.inv i.loop-test.taken f.find-line.ensures a.keep-line.ensures
 
 same_length : tie.Need-same-length invariant-loop decreases-loop
-same_length c = c.before.loop.invariant.cores.packs-size
+same_length c = c.before.loop.invariant.cores.packs_size
 
 same-length-2 : tie.Need-same-length-2 invariant-loop decreases-loop
 same-length-2 c = c.before.loop.invariant.cores.size

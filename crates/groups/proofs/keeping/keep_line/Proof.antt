@@ -75,7 +75,7 @@ keep-core-requires c κs =
     let k = i.invariant.2 in
     let below = c.before.before.before.before.before.before.before.before.before.loop-test.true in
     let few = cells-le s.args.orders.now s.args.members.now s.args.first s.args.least i.last in
-    (omega (arith, below, k.number, k.packs-size, few, s.requires.packs-room), omega (arith, below, k.number, k.size, few, s.requires.room), omega (arith, below, k.number, few, s.requires.few), k.few s.requires.records-few, i.invariant.0)
+    (omega (arith, below, k.number, k.packs_size, few, s.requires.packs_room), omega (arith, below, k.number, k.size, few, s.requires.room), omega (arith, below, k.number, few, s.requires.few), k.few s.requires.records_few, i.invariant.0)
 
 add-last-2 : tie.Need-overflow-add-last-2 invariant-loop decreases-loop
 add-last-2 c = search rules
@@ -95,7 +95,7 @@ loop-again-2 c =
     (search rules, search rules, line-more a.orders.now a.members.now a.first a.circles.now a.large.now a.least i.last i.invariant.0 i.invariant.2 (rw (w.set_at.ensures, line-group a.orders.now a.members.now a.first i.last high) at k.keep-core.ensures))
 
 same_length : tie.Need-same-length invariant-loop decreases-loop
-same_length c = c.before.loop.invariant.2.packs-size
+same_length c = c.before.loop.invariant.2.packs_size
 
 same-length-2 : tie.Need-same-length-2 invariant-loop decreases-loop
 same-length-2 c = c.before.loop.invariant.2.size

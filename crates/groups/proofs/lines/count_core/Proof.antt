@@ -17,7 +17,7 @@ use Rattle.groups.proofs.lines.count_core.Statement.{statement}
 use Rattle.groups.proofs.lines.count_core.Tie as tie
 
 returns : tie.Need-returns
-returns c = record { in_all = at_none; with-enough = at_none; counted = λ p. absurd (omega (arith, c.if1.true)) }
+returns c = record { in_all = at_none; with_enough = at_none; counted = λ p. absurd (omega (arith, c.if1.true)) }
 
 count-circles-requires : tie.Need-count-circles-requires
 count-circles-requires c κs = search rules
@@ -59,10 +59,10 @@ returns-2 c =
     let e = k.count-circles.ensures in
     record {
       in_all = record { size = length-set a.circles.now a.last k.count-circles.result.all; other = λ i f. get_or-set_other a.circles.now a.last i k.count-circles.result.all 0 f };
-      with-enough = record { size = length-set a.large.now a.last k.count-circles.result.large; other = λ i f. get_or-set_other a.large.now a.last i k.count-circles.result.large 0 f };
+      with_enough = record { size = length-set a.large.now a.last k.count-circles.result.large; other = λ i f. get_or-set_other a.large.now a.last i k.count-circles.result.large 0 f };
       counted = λ p. record {
         in_all = get_or-set_same a.circles.now a.last k.count-circles.result.all 0 s.requires.0 ∙ e.0;
-        with-enough = get_or-set_same a.large.now a.last k.count-circles.result.large 0 s.requires.1 ∙ e.1;
+        with_enough = get_or-set_same a.large.now a.last k.count-circles.result.large 0 s.requires.1 ∙ e.1;
       };
     }
 

@@ -82,10 +82,10 @@ loop-again c =
     rw w.put-set.ensures (finding-next p.0 p.1 p.2 p.3 i.before.loop.invariant i.loop-test.true at_none at_none (bounds-meet (asked i) t.if1.true))
 
 slice-aggregate-narrow-to : tie.Need-slice-aggregate-narrow-to invariant-loop decreases-loop
-slice-aggregate-narrow-to c = sym (going-size (going_start (asked c.before.before.before).rows-to))
+slice-aggregate-narrow-to c = sym (going-size (going_start (asked c.before.before.before).rows_to))
 
 narrow-to-requires : tie.Need-narrow-to-requires invariant-loop decreases-loop
-narrow-to-requires c κs = let i = c.before.before.before in ((asked i).span, (asked i).rows-to)
+narrow-to-requires c κs = let i = c.before.before.before in ((asked i).span, (asked i).rows_to)
 
 united-requires : tie.Need-united-requires invariant-loop decreases-loop
 united-requires c κs = search rules
@@ -110,7 +110,7 @@ count-core-requires : tie.Need-count-core-requires invariant-loop decreases-loop
 count-core-requires c κs =
     let i = turn c.before.before.before.before.before.before.before in
     let f = i.before.loop.inv.found in
-    (at_table i f.circles-size, at_table i f.large-size)
+    (at_table i f.circles_size, at_table i f.large_size)
 
 add-last-2 : tie.Need-overflow-add-last-2 invariant-loop decreases-loop
 add-last-2 c = omega (arith, small (turn c.before.before.before.before.before.before.before.before.before.before.before.before))
@@ -134,23 +134,23 @@ loop-again-2 c =
     let q = symmetric-highest (rows-symmetric s e _ (united-sub s e b p.1.named t)) h.highest-core.ensures in
     let counted = k.count-core.ensures in
     let found = core-found (asked i) e b t (record { order = q.order; members = q.members }) (rw back at counted.counted) in
-    rw (back, w.put-set2.ensures) (finding-next p.0 p.1 p.2 p.3 i.before.loop.inv i.loop-test.taken counted.in_all counted.with-enough found)
+    rw (back, w.put-set2.ensures) (finding-next p.0 p.1 p.2 p.3 i.before.loop.inv i.loop-test.taken counted.in_all counted.with_enough found)
 
 -- where the function started
 abbrev start : tie.After-loop invariant-loop decreases-loop → tie.Start invariant-loop decreases-loop
 start c = c.before.before.before.before.before.before.before.before.before
 
 same_length : tie.Need-same-length invariant-loop decreases-loop
-same_length c = c.before.loop.invariant.found.orders-size
+same_length c = c.before.loop.invariant.found.orders_size
 
 same-length-2 : tie.Need-same-length-2 invariant-loop decreases-loop
-same-length-2 c = c.before.loop.invariant.found.members-size ∙ sym (start c).requires.4
+same-length-2 c = c.before.loop.invariant.found.members_size ∙ sym (start c).requires.4
 
 same-length-3 : tie.Need-same-length-3 invariant-loop decreases-loop
-same-length-3 c = c.before.loop.invariant.found.circles-size ∙ sym (start c).requires.5
+same-length-3 c = c.before.loop.invariant.found.circles_size ∙ sym (start c).requires.5
 
 same-length-4 : tie.Need-same-length-4 invariant-loop decreases-loop
-same-length-4 c = c.before.loop.invariant.found.large-size ∙ sym (start c).requires.6
+same-length-4 c = c.before.loop.invariant.found.large_size ∙ sym (start c).requires.6
 
 returns : tie.Need-returns invariant-loop decreases-loop
 returns c = finding-end c.before.loop.invariant c.loop-test.false

@@ -43,12 +43,12 @@ few c = (limits_of (here c).lent.limits).few
 -- the numbers found, of the n badges, are the bytes
 bytes : (c : tie.After-core-numbers) →
     let a = c.before.before.before.before.before.before.args in
-    take a.badges c.core-numbers.result ≡ core_number_bytes a.badges a.words.now (members a.review) a.first a.last
+    take a.badges c.core_numbers.result ≡ core_number_bytes a.badges a.words.now (members a.review) a.first a.last
 bytes c =
     let r = c.before in
     let s = r.before.before.before.before.before in
     let a = s.args in
-    ap (take a.badges) (c.core-numbers.ensures ∙ ap (λ (l : List ℕ). core_numbers l (members a.review)) r.span-rows.ensures)
+    ap (take a.badges) (c.core_numbers.ensures ∙ ap (λ (l : List ℕ). core_numbers l (members a.review)) r.span-rows.ensures)
     ∙ numbers-found a.badges a.words.now (members a.review) a.first a.last (few r.before) s.requires.1.named
 
 span-rows-requires : tie.Need-span-rows-requires
@@ -61,7 +61,7 @@ array-share-prefix-numbers : tie.Need-array-share-prefix-numbers
 array-share-prefix-numbers c = omega (arith, few c.before.before)
 
 slice-aggregate-deliver : tie.Need-slice-aggregate-deliver
-slice-aggregate-deliver c = sym (length-take-le _ c.before.core-numbers.result (omega (arith, few c.before.before.before)))
+slice-aggregate-deliver c = sym (length-take-le _ c.before.core_numbers.result (omega (arith, few c.before.before.before)))
 
 deliver-requires : tie.Need-deliver-requires
 deliver-requires c κs = search rules

@@ -128,7 +128,7 @@ encode-plan-requires c κs =
       reviewed = p.1;
       scored = b.before.before.before.fill-scores.ensures;
       cutting = (found b).cutting;
-      ends-size = search rules;
+      ends_size = search rules;
       room = rw (sized b).set-bytes.ensures at b.before.before.before.before.before.if5.false;
     }
 

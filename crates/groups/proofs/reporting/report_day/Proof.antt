@@ -25,7 +25,7 @@ report-groups-requires c κs =
     let r = c.before in
     let s = r.before.before.before.before in
     let range = ranges-of s.args.least (sym r.before.in-range.ensures ∙ not-false _ r.if1.false) in
-    (s.requires.0, s.requires.1, omega (arith, range.members-low))
+    (s.requires.0, s.requires.1, omega (arith, range.members_low))
 
 same_length : tie.Need-same-length
 same_length c = search rules

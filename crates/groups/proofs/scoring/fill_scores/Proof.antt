@@ -35,7 +35,7 @@ find-line-requires c κs =
     let i = c.before.before.before.before in
     let b = i.before.loop.invariant in
     let p = i.before.before.before.before.requires in
-    (p.0, p.1, i.loop-test.true, b.before, b.members-size, b.circles-size, b.large-size)
+    (p.0, p.1, i.loop-test.true, b.before, b.members_size, b.circles_size, b.large_size)
 
 slice-aggregate-put-line : tie.Need-slice-aggregate-put-line invariant-loop decreases-loop
 slice-aggregate-put-line c = search rules

@@ -18,7 +18,7 @@ loop-holds : tie.Need-loop-init invariant-loop decreases-loop
 loop-holds c = (search rules, omega (arith, c.requires.inside), putting-start c.requires)
 
 shared-slice-read-scores : tie.Need-shared-slice-read-scores invariant-loop decreases-loop
-shared-slice-read-scores c = let s = c.before.before.before in omega (arith, s.requires.orders-size, c.before.loop-test.true)
+shared-slice-read-scores c = let s = c.before.before.before in omega (arith, s.requires.orders_size, c.before.loop-test.true)
 
 mul-scores : tie.Need-overflow-mul-scores invariant-loop decreases-loop
 mul-scores c = let s = c.before.before.before in omega (arith, s.requires.inside, s.requires.short)
@@ -41,7 +41,7 @@ loop-again c =
     (search rules, search rules, putting-next i.before.before.requires i.before.loop.invariant.2 i.before.loop.invariant.0 i.loop-test.true)
 
 same_length : tie.Need-same-length invariant-loop decreases-loop
-same_length c = c.before.loop.invariant.2.size ∙ sym c.before.before.requires.scores-size
+same_length c = c.before.loop.invariant.2.size ∙ sym c.before.before.requires.scores_size
 
 returns : tie.Need-returns invariant-loop decreases-loop
 returns c =
