@@ -5,10 +5,10 @@ use Rattle.std.specs.Prelude.{◌≡◌, ℕ, ◌<◌, ◌≤◌}
 -- refuses
 pub record Judged (number badges ticks contacts : ℕ) : Type 0 where
   pub known : number ≤ 7
-  pub few-badges : badges < 256
-  pub few-ticks : ticks < 256
-  pub few-contacts : contacts ≤ 8000
-  pub no-values : 0 < number → (badges ≡ 0) × (ticks ≡ 0) × (contacts ≡ 0)
+  pub few_badges : badges < 256
+  pub few_ticks : ticks < 256
+  pub few_contacts : contacts ≤ 8000
+  pub no_values : 0 < number → (badges ≡ 0) × (ticks ≡ 0) × (contacts ≡ 0)
 
 -- each word that is lent to a call, before it: a5c396f05a3c690f in hexadecimal
 abbrev pub pattern : ℕ
