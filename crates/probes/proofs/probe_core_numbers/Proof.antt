@@ -10,7 +10,7 @@ core-numbers-requires : tie.Need-core-numbers-requires
 core-numbers-requires c κs = search rules
 
 returns : tie.Need-returns
-returns c = rw c.before.from-words.ensures at c.core_numbers.ensures
+returns c = rw c.before.from-words.ensures at c.core-numbers.ensures
 
 pub probe-core-numbers-spec : {M : Type 1} → statement M
 probe-core-numbers-spec = tie.close (tie.spec from-words-requires core-numbers-requires returns)

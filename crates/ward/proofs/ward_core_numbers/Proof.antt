@@ -19,7 +19,7 @@ same_length c = search rules
 
 returns : tie.Need-returns
 returns c =
-    let r = rw c.before.before.before.before.before.from-words.ensures at c.before.before.before.core_numbers.ensures in
+    let r = rw c.before.before.before.before.before.from-words.ensures at c.before.before.before.core-numbers.ensures in
     (c.group-answer.ensures ∙ ap written_answer r.0, r.1)
 
 pub ward-core-numbers-spec : {M : Type 1} → statement M
