@@ -1,6 +1,6 @@
 /* Reads the log that its first argument names, prints its groups, those that are left without the badges of the cleaning staff, and the plan around
- * the badge and into the parts that the second and third argument give. Build, from the repository's root, after `rt staticlib ward`:
- *     cc -Iinclude examples/groups.c target/staticlib/libward.a -o groups
+ * the badge and into the parts that the second and third argument give. Build, from the repository's root, after `rt lib` in crates/ward:
+ *     cc -Iinclude examples/groups.c crates/ward/out/libward.a -o groups
  *     ./groups examples/ward.log 1 3 */
 #include <stdio.h>
 #include <stdlib.h>

@@ -1,6 +1,6 @@
 /* Joins the logs that its arguments from the second on name, of from 2 to 4 receivers of one shift, and prints the groups of the joined day: a contact
- * counts if at least so many of the logs have it as the first argument says. Build, from the repository's root, after `rt staticlib ward`:
- *     cc -Iinclude examples/receivers.c target/staticlib/libward.a -o receivers
+ * counts if at least so many of the logs have it as the first argument says. Build, from the repository's root, after `rt lib` in crates/ward:
+ *     cc -Iinclude examples/receivers.c crates/ward/out/libward.a -o receivers
  *     ./receivers 2 examples/ward-east.log examples/ward-west.log */
 #include <stdio.h>
 #include <stdlib.h>

@@ -1,7 +1,7 @@
 /* Reads the log that its first argument names, and prints whom the badge that the second argument gives can have reached, from the tick on that the
  * third gives: in which tick, and through whom, in the order of ticks and then of badges; last, who was never reached. Build, from the repository's
- * root, after `rt staticlib ward`:
- *     cc -Iinclude examples/trace.c target/staticlib/libward.a -o trace
+ * root, after `rt lib` in crates/ward:
+ *     cc -Iinclude examples/trace.c crates/ward/out/libward.a -o trace
  *     ./trace examples/ward.log 0 2 */
 #include <stdio.h>
 #include <stdlib.h>

@@ -1,5 +1,5 @@
-/* The ward contact engine for C, and for any language that can call C. Link with libward.a, which `rt staticlib ward` writes
- * (x86-64 Linux).
+/* The ward contact engine for C, and for any language that can call C. Link with libward.a, which `rt lib` in crates/ward
+ * writes, as crates/ward/out/libward.a (x86-64 Linux).
  *
  * A caller lends memory and calls. A call takes every input, does its own checking and finishes; it keeps nothing between calls,
  * allocates nothing, and may run in any number of threads at once, each with memory of its own. What each call answers and leaves in

@@ -1,12 +1,12 @@
 #!/usr/bin/env bash
 # Builds the examples in C with the address sanitizer, runs them on the example logs and on D1's, and compares what they print.
-# Needs cc, and target/staticlib/libward.a, which `rt staticlib ward` writes. Says 'N passed, M failed'.
+# Needs cc, and crates/ward/out/libward.a, which `rt lib` in crates/ward writes. Says 'N passed, M failed'.
 set -euo pipefail
 cd "$(dirname "${BASH_SOURCE[0]}")/.."
 scratch=$(mktemp -d)
 trap 'rm -rf "$scratch"' EXIT
 for example in groups receivers trace; do
-    cc -std=c11 -Wall -Wextra -Wpedantic -Werror -fsanitize=address,undefined -Iinclude "examples/$example.c" target/staticlib/libward.a \
+    cc -std=c11 -Wall -Wextra -Wpedantic -Werror -fsanitize=address,undefined -Iinclude "examples/$example.c" crates/ward/out/libward.a \
         -o "$scratch/$example"
 done
 passed=0

@@ -11,7 +11,7 @@
 # log with probability 3/4, and before it the reads of the same logs, one after the other. In these two there is a '-' where a day has no log, having
 # more than 8,000 runs. The last has the engine's report, plan in 8 parts and trace on a day of 128 badges and 96 ticks that is made as the named one
 # is, and the ratio of each to that on the day of 64 badges. Each count is of one call, or of the reads of 2 or 4 logs, in a new process. Needs cargo,
-# valgrind, and target/staticlib/libward.a, which `rt staticlib ward` writes. Its arguments are the days, all six if there are none; there is one
+# valgrind, and crates/ward/out/libward.a, which `rt lib` in crates/ward writes. Its arguments are the days, all six if there are none; there is one
 # more, 'circles', of which every core falls apart.
 set -euo pipefail
 source "$(dirname "${BASH_SOURCE[0]}")/counting.sh"

@@ -1,5 +1,5 @@
 # For the scripts that count instructions: builds the benchmark, and counts one call of it. To be read by bash from another script, with `source`.
-# Needs cargo, valgrind, and target/staticlib/libward.a, which `rt staticlib ward` writes.
+# Needs cargo, valgrind, and crates/ward/out/libward.a, which `rt lib` in crates/ward writes.
 cd "$(dirname "${BASH_SOURCE[0]}")/../rust/ward"
 cargo build --quiet --offline --release --target-dir target --example bench
 scratch=$(mktemp -d)

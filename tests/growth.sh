@@ -1,7 +1,7 @@
 #!/usr/bin/env bash
 # Counts how the instructions of the engine's report, and of its plan around badges 0 and 1 in 8 parts, grow with the badges and the ticks of a day, in
 # millions: figures that repeat, as a table for docs/GROWTH.md. Each count is of one call in a new process, with the check of the words.
-# Needs cargo, valgrind, and target/staticlib/libward.a, which `rt staticlib ward` writes. Its arguments are the days, random and persistent if there are
+# Needs cargo, valgrind, and crates/ward/out/libward.a, which `rt lib` in crates/ward writes. Its arguments are the days, random and persistent if there are
 # none.
 set -euo pipefail
 source "$(dirname "${BASH_SOURCE[0]}")/counting.sh"

@@ -1,9 +1,9 @@
 #!/usr/bin/env bash
 # Feeds the listing program from a pipe, a few bytes at a time, and compares what it writes with the text that is expected of each input.
-# Needs target/bin/listing, which `rt check listing` builds. Says 'N passed, M failed'.
+# Needs crates/listing/out/listing, which `rt run` in crates/listing builds, and `rt ci`. Says 'N passed, M failed'.
 set -euo pipefail
 cd "$(dirname "${BASH_SOURCE[0]}")/.."
-program=target/bin/listing
+program=crates/listing/out/listing
 scratch=$(mktemp -d)
 trap 'rm -rf "$scratch"' EXIT
 passed=0

@@ -4,7 +4,7 @@ ghost use Rattle.std.specs.Prelude.{◌≡◌, length};
 // The rule for contact k of a log. In a chain, badges k % 3 and the next are in contact in tick 0 or ticks 0 to 1. In rounds, contacts 64s to 64s + 63 end
 // with tick s, and begin so many ticks before it, or with tick 0: each of 64 badges is in contact with the one whose number differs from its own in binary
 // digit s % 4 alone, so that each pair is named twice.
-#[derive(Drop)]
+#[derive(Clone, Copy)]
 pub(crate) enum Rule {
     Chain,
     Rounds(usize),

@@ -13,6 +13,7 @@ mod random_cases;
 
 use random_cases::{Family, cases_of};
 use reference::{Size, Tally, print};
+use std::io;
 
 // Small random days, and small random logs, of which some are damaged.
 const SMALL_DAYS: Size = Size {
@@ -54,51 +55,82 @@ const SHORT: Size = Size {
 };
 
 // Runs small random cases of a family, and some larger ones, and prints its line.
-fn run(before: Tally, name: &[u8], family: Family, small: Size, larger: Size) -> Tally {
+fn run(
+    rt: &impl Print,
+    before: Tally,
+    name: &[u8],
+    family: Family,
+    small: Size,
+    larger: Size,
+) -> io::Result<Tally> {
     let cases = cases_of(family, 500, small).plus(cases_of(family, 25, larger));
-    print(before, name, cases)
+    print(rt, before, name, cases)
 }
 
-fn named(t: Tally) -> Tally {
-    let t = print(t, b"64 badges all in contact: order 63", limits::order_63());
+fn named(rt: &impl Print, t: Tally) -> io::Result<Tally> {
     let t = print(
+        rt,
+        t,
+        b"64 badges all in contact: order 63",
+        limits::order_63(),
+    )?;
+    let t = print(
+        rt,
         t,
         b"128 badges all in contact: order 127",
         limits::order_127(),
-    );
-    let t = print(t, b"T 96 with 128 badges", limits::largest_day());
-    let t = print(t, b"n 129 or T 97: 3", limits::header());
-    let t = print(t, b"8000 contacts pass", limits::contacts());
-    print(t, b"65536 bytes are listed", listings::edge())
+    )?;
+    let t = print(rt, t, b"T 96 with 128 badges", limits::largest_day())?;
+    let t = print(rt, t, b"n 129 or T 97: 3", limits::header())?;
+    let t = print(rt, t, b"8000 contacts pass", limits::contacts())?;
+    print(rt, t, b"65536 bytes are listed", listings::edge())
 }
 
-fn random_logs(t: Tally) -> Tally {
-    let t = run(t, b"read: random logs", Family::Read, SMALL_LOGS, LARGE);
-    let t = run(t, b"tidy: random logs", Family::Tidy, SMALL_LOGS, LARGE);
-    run(t, b"listing: random logs", Family::List, SMALL_LOGS, MIDDLE)
+fn random_logs(rt: &impl Print, t: Tally) -> io::Result<Tally> {
+    let t = run(rt, t, b"read: random logs", Family::Read, SMALL_LOGS, LARGE)?;
+    let t = run(rt, t, b"tidy: random logs", Family::Tidy, SMALL_LOGS, LARGE)?;
+    run(
+        rt,
+        t,
+        b"listing: random logs",
+        Family::List,
+        SMALL_LOGS,
+        MIDDLE,
+    )
 }
 
-fn random_days(t: Tally) -> Tally {
-    let t = run(t, b"write: random days", Family::Write, SMALL_DAYS, LARGE);
+fn random_days(rt: &impl Print, t: Tally) -> io::Result<Tally> {
     let t = run(
+        rt,
+        t,
+        b"write: random days",
+        Family::Write,
+        SMALL_DAYS,
+        LARGE,
+    )?;
+    let t = run(
+        rt,
         t,
         b"core numbers: random days",
         Family::CoreNumbers,
         SMALL_DAYS,
         LARGE,
-    );
+    )?;
     let t = run(
+        rt,
         t,
         b"report: random days",
         Family::Report,
         SMALL_DAYS,
         MIDDLE,
-    );
-    run(t, b"plan: random days", Family::Plan, SMALL_DAYS, SHORT)
+    )?;
+    run(rt, t, b"plan: random days", Family::Plan, SMALL_DAYS, SHORT)
 }
 
-fn main() {
-    let t = named(Tally::none());
-    let t = random_days(random_logs(t));
-    print(Tally::none(), b"all", t);
+fn main(rt: HostRuntime) -> io::Result<()> {
+    let t = named(&rt, Tally::none())?;
+    let t = random_logs(&rt, t)?;
+    let t = random_days(&rt, t)?;
+    print(&rt, Tally::none(), b"all", t)?;
+    Ok(())
 }

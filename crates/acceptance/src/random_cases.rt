@@ -3,7 +3,7 @@ use crate::cases;
 use reference::{SEED, Size, Tally, draw_from, first_bytes, judge, random_log};
 
 // What the cases of a family call.
-#[derive(Drop)]
+#[derive(Clone, Copy)]
 pub(crate) enum Family {
     Read,
     Tidy,

@@ -23,7 +23,7 @@ pub(crate) const PH: usize = 0x4850;
 pub(crate) const PT: usize = 0x5450;
 
 // The first bytes of an array, each byte after which holds the filler. What finds no room is left out.
-#[derive(Drop)]
+#[derive(Clone, Copy)]
 pub struct Bytes {
     pub bytes: [u8; ROOM],
     pub len: usize,

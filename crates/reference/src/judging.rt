@@ -9,7 +9,7 @@ use crate::slices::byte_at;
 use std::num::wrapping_sub_usize;
 
 // What judging comes to. Number 0: a log of n badges, T ticks and so many contacts. Any other number: refused, at an offset, with no values.
-#[derive(Drop)]
+#[derive(Clone, Copy)]
 pub struct Verdict {
     pub number: usize,
     pub offset: usize,

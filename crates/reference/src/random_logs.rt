@@ -6,7 +6,7 @@ use crate::random::draw_from;
 use std::num::{wrapping_add_usize, wrapping_sub_usize};
 
 // Of how many badges and ticks random logs are at most, and how many contacts they have fewer than. With damage 1 some are damaged, with 0 none.
-#[derive(Drop)]
+#[derive(Clone, Copy)]
 pub struct Size {
     pub badges: usize,
     pub ticks: usize,

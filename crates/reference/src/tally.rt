@@ -1,12 +1,12 @@
 // Counting cases, and printing the counts of a family.
-ghost use Rattle.std.specs.Prelude.{◌≡◌};
+ghost use Rattle.std.specs.Prelude.{◌≡◌, IfOk};
 ghost use Rattle.reference.specs.Tallies.{sum, misses};
 
-use libc::STDOUT_FILENO;
+use std::io;
 use std::num::wrapping_add_u64;
 
 // How many cases were run, and how many of them came out wrong.
-#[derive(Drop)]
+#[derive(Clone, Copy)]
 pub struct Tally {
     pub run: u64,
     pub wrong: u64,
@@ -42,14 +42,10 @@ impl Tally {
 }
 
 // Prints the line of a family, and adds its counts to those of the families before it.
-pub fn print(before: Tally, name: &[u8], tally: Tally) -> Tally
-    ensures { (result.run ≡ sum before.run tally.run) × (result.wrong ≡ sum before.wrong tally.wrong) }
+pub fn print(rt: &impl Print, before: Tally, name: &[u8], tally: Tally) -> io::Result<Tally>
+    ensures { IfOk result (λ t. (t.run ≡ sum before.run tally.run) × (t.wrong ≡ sum before.wrong tally.wrong)) }
 {
-    io::write_all(STDOUT_FILENO, name);
-    io::write_all(STDOUT_FILENO, b": ");
-    io::print_decimal(STDOUT_FILENO, tally.run);
-    io::write_all(STDOUT_FILENO, b" cases, ");
-    io::print_decimal(STDOUT_FILENO, tally.wrong);
-    io::write_all(STDOUT_FILENO, b" wrong\n");
-    before.plus(tally)
+    rt.write_all(name)?;
+    println!(rt; ": {} cases, {} wrong", tally.run, tally.wrong)?;
+    Ok(before.plus(tally))
 }

@@ -1,0 +1,10 @@
+-- `join_answer` meets its contract: a refusal has its number and offset, and success its values.
+use Rattle.std.proofs.Common.{ap₂, ◌∙◌}
+use Rattle.ward.specs.Answers.{refused_answer}
+use Rattle.ward.proofs.answers.join_answer.Goals as goal
+
+pub returns-in-Refused : goal.returns-in-Refused
+returns-in-Refused c = rw c.in-Refused.is (c.refused.ensures ∙ ap₂ refused_answer c.number.ensures c.offset.ensures)
+
+pub returns-in-Day : goal.returns-in-Day
+returns-in-Day c = rw c.in-Day.is
