@@ -9,7 +9,7 @@ use groups::Written;
 use logs::put;
 
 // How far a piece came: the place of the next line, and the number of bytes written.
-#[derive(Drop)]
+#[derive(Clone, Copy)]
 pub struct Piece {
     pub next: usize,
     pub bytes: usize,

@@ -1,0 +1,11 @@
+-- head_line meets its contract: three labelled numbers and a newline.
+use borrow.Author.Rules.{rules}
+use Rattle.text.specs.Listing.{head_line}
+use Rattle.text.proofs.Appended.{appends-then, makes}
+use Rattle.text.proofs.line.head_line.Goals as goal
+
+pub returns : goal.returns
+unfolding head_line
+returns c =
+    makes c.requires (search rules)
+    (appends-then c.append_field-at.ensures.appends (appends-then c.append_field-at-2.ensures.appends (appends-then c.append_field-at-3.ensures.appends c.append.ensures)))

@@ -1,0 +1,13 @@
+-- width_of meets its contract: the third byte says n, and n the bytes of a set.
+use mathlib.Core.Path.{ap, ◌∙◌}
+use Prim.Native.Nat.{ℕ}
+use borrow.Author.Rules.{rules}
+use Rattle.spans.specs.Encoding.{form_of}
+use Rattle.spans.proofs.Forms.{marked}
+use Rattle.text.proofs.shown.width_of.Goals as goal
+
+pub returns : goal.returns
+returns c =
+    let e = c.set_bytes.ensures ∙ ap (λ (n : ℕ). (form_of n).set_bytes) (c.widen.ensures.0 ∙ c.byte_at.ensures) in
+    let m = marked _ in
+    record { value = e; lower_bound = (rw e m.least, rw e m.most) }
