@@ -22,7 +22,7 @@ use Rattle.chains.proofs.Spreading.{Touched, spread-keeps, spread-in, spread-of}
 use Rattle.chains.proofs.TicksFirst.{first-length, tick-at, source-at, first-is}
 use Rattle.trace.specs.Steps.{reached_by, shown, new_in, Turned, PassedTick}
 
--- what a turn leaves, where no_source who passes on is in contact with the badge, and where somebody is
+-- what a turn leaves, where nobody who passes on is in contact with the badge, and where somebody is
 module _ (sources : ℕ) where
   pub reached-none : (s u : ℕ) → eqb sources 0 ≡ true → reached_by sources s u ≡ s
   unfolding reached_by
@@ -121,7 +121,7 @@ module _ (n : ℕ) (row : ℕ → ℕ) (t passing : ℕ) where
     less : Sub (difference unseen (only u)) all
     less = unseen-less u w.within
 
-    -- no_source who passes on is in contact with the badge: it is not reached
+    -- nobody who passes on is in contact with the badge: it is not reached
     module _ (none : eqb sources 0 ≡ true) where
       stays : In (spread n row passing) u → ⊥
       stays j = ⊎_elim fresh.1 (λ h. not-in-none h.by (subst (λ (x : ℕ). In x h.by) (sym e ∙ eqb-true _ _ none) (in-intersection _ _ h.by h.row_has h.member))) (spread-of n row passing u j)

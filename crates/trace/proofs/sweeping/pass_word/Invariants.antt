@@ -1,0 +1,21 @@
+-- `pass_word` meets its contract. Its loop's invariant: of the unseen badges, those of the word have had their turn that are no longer left of it. It ends
+-- as what is left of the word gets smaller.
+use mathlib.Core.List.{List}
+use mathlib.Core.Path.{◌≡◌}
+use Prim.Native.Nat.{ℕ, ◌+◌, ◌^◌, ◌<◌}
+use lib.ListN.{length}
+use Rattle.sets.specs.Sets.{Sub, difference}
+use Rattle.sets.specs.Members.{members}
+use Rattle.sets.specs.Words.{word_bits, in_word, set_at}
+use Rattle.trace.specs.Steps.{Turned}
+use Rattle.trace.proofs.sweeping.pass_word.Given as goal
+
+abbrev pub invariant-loop-unseen : goal.invariant-loop-unseen
+invariant-loop-unseen l =
+    (length l.trace ≡ l.n + l.n) × (l.unseen < 2 ^ word_bits) × Sub (in_word l.i l.unseen) (in_word l.i l.word)
+    × ((all : ℕ) (first : List ℕ) → Sub (in_word l.i l.word) all
+    → Turned l.n (λ u. set_at l.words (l.base + u)) l.t (members l.passing) all (members l.fn.before) first l.initial.trace
+    → Turned l.n (λ u. set_at l.words (l.base + u)) l.t (members l.passing) (difference all (difference (in_word l.i l.word) (in_word l.i l.unseen))) (members l.reached) first l.trace)
+
+abbrev pub decreases-loop-unseen : goal.decreases-loop-unseen
+decreases-loop-unseen l = l.unseen
