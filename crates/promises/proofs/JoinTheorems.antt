@@ -64,10 +64,10 @@ sum-whole [] = refl
 sum-whole (log ∷ logs) = omega (arith, sum-whole logs, length-append log (flatten logs))
 
 -- logs of the grammar are accepted, each with its records, which have n and T; there are as many lists of contacts, and these are valid
-are-accepted : (at : ℕ) {n T : ℕ} {logs : List (List ℕ)} {all : List (List Record)} → AreLogs n T logs all → judge_logs at logs ≡ success (map (log_records n T) all)
+are-accepted : {n T : ℕ} (at : ℕ) {logs : List (List ℕ)} {all : List (List Record)} → AreLogs n T logs all → judge_logs at logs ≡ success (map (log_records n T) all)
 unfolding judge_logs and_then
 are-accepted at none = refl
-are-accepted at {n} {T} (more {log} {cts} {logs} {all} l r) =
+are-accepted {n} {T} at (more {log} {cts} {logs} {all} l r) =
     let first : judge_from (start at) log ≡ success (log_records n T cts) = ap (judge_from (start at)) l.bytes ∙ grammar-accepted at n T cts l.limits l.few l.valid in
     rw (first, are-accepted (at + length log) r)
 
@@ -77,10 +77,12 @@ are-count (more l r) = ap suc (are-count r)
 
 are-sized : (n T : ℕ) (all : List (List Record)) → AllSized n T (map (log_records n T) all)
 unfolding log_records badges_of ticks_of
+are-sized n T [] rs i = elim i [ ]
 are-sized n T (cts ∷ all) rs (Memᴰ.head e) = subst (Sized n T) (sym e) (record { badges = refl; ticks = refl })
 are-sized n T (cts ∷ all) rs (Memᴰ.tail m) = are-sized n T all rs m
 
 are-valid : {n T : ℕ} {logs : List (List ℕ)} {all : List (List Record)} → AreLogs n T logs all → (cts : List Record) → Memᴰ cts all → (c : Record) → Mem c cts → valid_contact n T c ≡ true
+are-valid none cts i c m = elim i [ ]
 are-valid (more l r) cts (Memᴰ.head e) c m = l.valid c (subst (Mem c) e m)
 are-valid (more l r) cts (Memᴰ.tail i) c m = are-valid r cts i c m
 

@@ -57,7 +57,7 @@ module _ {A : Type 0} {P : A → Type 0} where
 
   pub at-least-permuted : {q : ℕ} {xs ys : List A} → Permᴰ xs ys → AtLeast P q xs → AtLeast P q ys
   at-least-permuted Permᴰ.nil r = r
-  at-least-permuted (Permᴰ.cons e d) r = kept e (λ m s. at-least-permuted d s) r
+  at-least-permuted {q = q} (Permᴰ.cons e d) r = kept e (λ m s. at-least-permuted {q = m} d s) r
   at-least-permuted (Permᴰ.swap e f) r = swapped e f r
   at-least-permuted (Permᴰ.trans d d') r = at-least-permuted d' (at-least-permuted d r)
 

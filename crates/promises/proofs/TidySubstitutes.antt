@@ -127,10 +127,13 @@ valid_all : ℕ → ℕ → List Record → Bool
 valid_all n T [] = true
 valid_all n T (c ∷ cs) = valid_contact n T c and valid_all n T cs
 
-valid-all : (n T : ℕ) (cts : List Record) → valid_all n T cts ≡ true → (c : Record) → Mem c cts → valid_contact n T c ≡ true
+valid-at : (n T : ℕ) (c : Record) (cts : List Record) → valid_all n T cts ≡ true → Mem c cts → valid_contact n T c ≡ true
 unfolding valid_all
-valid-all n T cts e c (Memᴰ.head f) = rw f (and_left _ _ e)
-valid-all n T cts e c (Memᴰ.tail {xs = ds} m) = valid-all n T ds (and_right _ _ e) c m
+valid-at n T c cts e (Memᴰ.head f) = rw f (and_left _ _ e)
+valid-at n T c cts e (Memᴰ.tail {xs = ds} m) = valid-at n T c ds (and_right _ _ e) m
+
+valid-all : (n T : ℕ) (cts : List Record) → valid_all n T cts ≡ true → (c : Record) → Mem c cts → valid_contact n T c ≡ true
+valid-all n T cts e c m = valid-at n T c cts e m
 
 -- D1 with 0–1 in two pieces, and D1 with a contact more: both have five contact records, and the second has one run more
 pieces : List Record
