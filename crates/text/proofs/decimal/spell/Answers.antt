@@ -4,7 +4,7 @@ use Prim.Native.Nat.{◌-◌}
 use native.Mathlib.Omega.{arith}
 use lib.ListN.{length-set}
 use borrow.Author.Rules.{rules}
-use Rattle.text.proofs.Digits.{Spelling, spelling-none, spelling-more, spelling-done}
+use Rattle.text.proofs.Digits.{spelling-none, spelling-more, spelling-done}
 use Rattle.text.proofs.decimal.spell.Goals as goal
 
 pub loop-rest-init : goal.loop-rest-init

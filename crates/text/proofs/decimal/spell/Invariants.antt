@@ -1,10 +1,5 @@
 -- spell meets its contract: in the loop the digits from a place on are put, and a rest of the number is left.
-use mathlib.Core.Path.{sym, ◌∙◌}
-use Prim.Native.Nat.{◌-◌}
-use native.Mathlib.Omega.{arith}
-use lib.ListN.{length-set}
-use borrow.Author.Rules.{rules}
-use Rattle.text.proofs.Digits.{Spelling, spelling-none, spelling-more, spelling-done}
+use Rattle.text.proofs.Digits.{Spelling}
 use Rattle.text.proofs.decimal.spell.Given as goal
 
 abbrev pub invariant-loop-rest : goal.invariant-loop-rest

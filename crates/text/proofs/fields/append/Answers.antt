@@ -1,6 +1,5 @@
 -- append meets its contract: the bytes are put where the line ends so far.
 use mathlib.Core.Path.{refl}
-use borrow.Author.Rules.{rules}
 use Rattle.text.proofs.Appended.{appends-put}
 use Rattle.text.proofs.fields.append.Goals as goal
 

@@ -1,6 +1,5 @@
 -- append_field meets its contract: the label, and then the digits.
 use native.Mathlib.Omega.{arith}
-use borrow.Author.Rules.{rules}
 use Rattle.text.proofs.Appended.{appends-field, field_room}
 use Rattle.text.proofs.fields.append_field.Goals as goal
 

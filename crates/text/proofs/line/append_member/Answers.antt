@@ -1,6 +1,5 @@
 -- append_member meets its contract: a badge that is no member appends nothing.
 use mathlib.Core.Path.{sym, ◌∙◌}
-use borrow.Author.Rules.{rules}
 use Rattle.text.proofs.Appended.{member-none, member-one}
 use Rattle.text.proofs.line.append_member.Goals as goal
 

@@ -1,9 +1,6 @@
 -- append_members meets its contract: before badge u of the loop the members below u are appended.
-use Prim.Native.Nat.{◌-◌}
 use native.Mathlib.Omega.{arith}
-use borrow.Author.Rules.{rules}
-use Rattle.sets.specs.Members.{capacity, members}
-use Rattle.text.proofs.Appended.{MembersBelow, members-none, members-more, members-done}
+use Rattle.text.proofs.Appended.{members-none, members-more, members-done}
 use Rattle.text.proofs.line.append_members.Goals as goal
 
 pub loop-u-init : goal.loop-u-init

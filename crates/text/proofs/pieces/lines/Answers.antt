@@ -1,6 +1,6 @@
 -- lines meets its contract: before each turn of the loop the lines so far stand in the buffer, and what fits behind them is still to come.
-use mathlib.Core.Path.{◌≡◌, sym, ap}
-use Prim.Native.Nat.{◌-◌, ◌<◌}
+use mathlib.Core.Path.{sym, ap}
+use Prim.Native.Nat.{◌<◌}
 use native.Mathlib.Omega.{arith}
 use lib.ListN.{length}
 use lib.Seq.{length-take-le}
@@ -8,9 +8,8 @@ use borrow.Author.Rules.{rules}
 use Rattle.groups.specs.Refusals.{written_outcome}
 use Rattle.text.specs.Pieces as p
 use Rattle.text.specs.Calls.{shown_lines}
-use Rattle.text.specs.Making.{line_room}
 use Rattle.text.proofs.LinesShown.{shown-count}
-use Rattle.text.proofs.Filling.{Fills, fills-none, fills-more, full-stop, end-stop, fills-done}
+use Rattle.text.proofs.Filling.{fills-none, fills-more, full-stop, end-stop, fills-done}
 use Rattle.text.proofs.pieces.lines.Goals as goal
 use Rattle.text.proofs.pieces.lines.Goals.{In-loop-next}
 

@@ -1,6 +1,5 @@
 -- prepare meets its contract: reading's refusal, or what the report of the day that was read comes to.
 use mathlib.Core.Path.{sym, ap, ◌∙◌}
-use borrow.Author.Rules.{rules}
 use Rattle.records.specs.Verdicts.{verdict_outcome}
 use Rattle.text.specs.Calls.{Prepared}
 use Rattle.text.proofs.PrepareCall.{prepare-refused, prepare-read}

@@ -4,7 +4,6 @@ use Prim.Native.Nat.{ℕ, suc, ◌-◌, ◌/◌}
 use native.Mathlib.Nat.{div-le_self}
 use native.Mathlib.Numerals.{add-one}
 use native.Mathlib.Omega.{arith}
-use borrow.Author.Rules.{rules}
 use Rattle.spans.specs.Encoding.{core_bytes}
 use Rattle.groups.specs.declared.answer.Written.{Written}
 use Rattle.groups.specs.Refusals.{written_outcome}

@@ -1,5 +1,4 @@
 -- make_line meets its contract: the line of a refusal, or one of the report.
-use borrow.Author.Rules.{rules}
 use Rattle.text.proofs.LinesShown.{refusal-shown}
 use Rattle.text.proofs.shown.make_line.Goals as goal
 

@@ -1,5 +1,4 @@
 -- record_line meets its contract: the bytes of the record are where decoding looks for them.
-use borrow.Author.Rules.{rules}
 use Rattle.text.proofs.LinesShown.{record-at}
 use Rattle.text.proofs.shown.record_line.Goals as goal
 use Rattle.text.proofs.shown.record_line.Goals.{After-byte_at-first, After-byte_at-last, After-byte_at-order, After-from_words-members, After-word_at-high, After-word_at-low}

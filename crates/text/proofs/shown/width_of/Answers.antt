@@ -1,7 +1,6 @@
 -- width_of meets its contract: the third byte says n, and n the bytes of a set.
 use mathlib.Core.Path.{ap, ◌∙◌}
 use Prim.Native.Nat.{ℕ}
-use borrow.Author.Rules.{rules}
 use Rattle.spans.specs.Encoding.{form_of}
 use Rattle.spans.proofs.Forms.{marked}
 use Rattle.text.proofs.shown.width_of.Goals as goal

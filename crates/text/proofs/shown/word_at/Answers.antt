@@ -1,7 +1,7 @@
 -- word_at meets its contract: before turn i of the loop the word is what the bytes from i on say.
 use native.Mathlib.Omega.{arith}
 use borrow.Author.Rules.{rules}
-use Rattle.text.proofs.LinesShown.{WordFrom, word_none, word_fits, word_more, word-done}
+use Rattle.text.proofs.LinesShown.{word_none, word_fits, word_more, word-done}
 use Rattle.text.proofs.shown.word_at.Goals as goal
 
 pub loop-i-init : goal.loop-i-init
