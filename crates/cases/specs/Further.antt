@@ -1,6 +1,6 @@
 -- Further cases, most of them about buffers of other sizes and the order of judging: they have no * in document 01. What a row says is in Rows.
 use Rattle.std.specs.Prelude.{List, [], ◌∷◌, ◌++◌, ℕ}
-use Rattle.sets.specs.Words.{set_words, words_of}
+use Rattle.sets.specs.Words.{words_of}
 use Rattle.sets.specs.Sets.{full}
 use Rattle.records.specs.Outcomes.{refused, success}
 use Rattle.sets.specs.Ascii.{ascii}
