@@ -85,6 +85,9 @@ module _ (bytes buffer : List ℕ) where
   unfolding deliver
   deliver-fits h = rw (deliver, le-ltb (length buffer) (length bytes) h)
 
+-- both, and what then stands in the buffer, by which each answer is found
+pub ruleset delivers = (deliver-short, deliver-fits, place-fits, overwrite-front)
+
 -- where a size was answered, there were bytes to deliver, and they are the first so many of the buffer
 pub deliver-success : (o : Outcome (List ℕ)) (buffer : List ℕ) (size : ℕ) → (deliver o buffer).answer ≡ success size
     → (bytes : List ℕ) × (o ≡ success bytes) × (take size (deliver o buffer).buffer ≡ bytes)

@@ -19,6 +19,7 @@ pub enum Written {
 
 // Puts an answer, in its bytes, into the buffer that is lent, if the buffer holds it. Refused by 9, and then no byte is changed; bytes after
 // the answer are never touched.
+#[tactic(auto, using(crate::proofs::Delivering::delivers))]
 pub fn deliver(bytes: &[u8], buffer: &mut [u8]) -> Written
     ensures answer { written_outcome result ≡ (deliver (success bytes.now) buffer.old).answer }
     ensures leaves { buffer.new ≡ (deliver (success bytes.now) buffer.old).buffer }
