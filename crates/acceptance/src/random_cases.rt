@@ -15,7 +15,7 @@ pub(crate) enum Family {
 }
 
 // The cases so far, and where the next draw goes on.
-#[derive(Drop)]
+#[derive(Clone, Copy)]
 struct Progress {
     tally: Tally,
     state: u64,

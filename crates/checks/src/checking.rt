@@ -15,7 +15,7 @@ use records::{Refusal, within_limits};
 use sets::{BadgeSet, ROW_WORDS, SET_WORDS, WORD_BITS};
 
 // Whether words are those of a day of n badges and T ticks.
-#[derive(Drop)]
+#[derive(Clone, Copy)]
 pub enum Checked {
     Day,
     Refused(Refusal),

@@ -13,7 +13,7 @@ ghost use Rattle.circles.specs.Circles.{first_circle, circles, at_least};
 use sets::{BadgeSet, ROW_WORDS, SET_WORDS, set_at};
 
 // How many circles a set has, and how many of them have members enough.
-#[derive(Drop)]
+#[derive(Clone, Copy)]
 pub struct Counted {
     pub all: usize,
     pub large: usize,

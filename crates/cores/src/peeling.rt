@@ -9,7 +9,7 @@ ghost use Rattle.cores.specs.Passes.{LookedAt, WordSeen, Passed, IsCoreKept};
 use sets::{BadgeSet, CAPACITY, ROW_WORDS, SET_WORDS, WORD_BITS, put_set, set_at};
 
 // What is left of a set while badges are dropped, and the least degree among those that were kept; the capacity where none was.
-#[derive(Drop)]
+#[derive(Clone, Copy)]
 pub(crate) struct Kept {
     pub(crate) members: BadgeSet,
     pub(crate) least: usize,
@@ -116,7 +116,7 @@ fn keep(rows: [u64; ROW_WORDS], s: BadgeSet) -> [u64; ROW_WORDS]
 }
 
 // Rows that were peeled: those of a core, the core's members, and their least degree; the capacity where there is no core.
-#[derive(Drop)]
+#[derive(Clone, Copy)]
 pub struct Peeled {
     pub rows: [u64; ROW_WORDS],
     pub members: BadgeSet,

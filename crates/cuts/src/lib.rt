@@ -78,8 +78,8 @@ fn sum_from(
     maximum: u8,
     rest: u16,
 ) -> u16
-    requires c_bound { (c < 96) × (t < stop) × (stop < 96) × SmallAfter sums.now c t stop }
-    requires none_above { NoneAbove (table_score scores.now t) t stop maximum × GreatestOf (row_after sums.now c) t stop rest }
+    requires in_table { (c < 96) × (t < stop) × (stop < 96) × SmallAfter sums.now c t stop }
+    requires row_known { NoneAbove (table_score scores.now t) t stop maximum × GreatestOf (row_after sums.now c) t stop rest }
     ensures { IsGreatestSum scores.now sums.now c t stop result }
 {
     if maximum < 1 {

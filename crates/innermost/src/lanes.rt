@@ -24,14 +24,14 @@ pub(crate) struct Degrees {
 }
 
 // A word of the row of one of a word's badges, and its other badges.
-#[derive(Drop)]
+#[derive(Clone, Copy)]
 struct Taken {
     row: u64,
     rest: u64,
 }
 
 // Sums in lanes, and the badges of a word whose rows are not in them yet.
-#[derive(Drop)]
+#[derive(Clone, Copy)]
 struct Summed {
     planes: Planes,
     unseen: u64,

@@ -14,7 +14,7 @@ use crate::lanes::{Degrees, below, count, discount, largest, raise};
 use sets::{BadgeSet, CAPACITY, ROW_WORDS, widen};
 
 // A core: its order, its members, and the rows that it was found in.
-#[derive(Drop)]
+#[derive(Clone, Copy)]
 pub struct Core {
     pub order: u8,
     pub members: BadgeSet,
@@ -22,21 +22,21 @@ pub struct Core {
 }
 
 // The order and the members of a core.
-#[derive(Drop)]
+#[derive(Clone, Copy)]
 pub struct Found {
     pub order: u8,
     pub members: BadgeSet,
 }
 
 // A set of badges, and its in-degrees counted at an order.
-#[derive(Drop)]
+#[derive(Clone, Copy)]
 struct Counted {
     members: BadgeSet,
     degrees: Degrees,
 }
 
 // Where to begin: the highest core that is known, and the in-degrees in the base counted at the order after its own.
-#[derive(Drop)]
+#[derive(Clone, Copy)]
 struct Beginning {
     order: u8,
     found: BadgeSet,

@@ -32,7 +32,7 @@ pub const EVERY: u64 = 0xffff_ffff_ffff_ffff;
 pub const HALF: usize = 128;
 
 // The sum of three bits in each lane.
-#[derive(Drop)]
+#[derive(Clone, Copy)]
 struct Sum {
     high: u64,
     low: u64,

@@ -6,7 +6,7 @@ ghost use Rattle.planes.specs.Leading.{Narrowed};
 use crate::Planes;
 
 // The lanes that have the largest number in the planes seen so far, and that number.
-#[derive(Drop)]
+#[derive(Clone, Copy)]
 struct Leading {
     lanes: u64,
     number: usize,

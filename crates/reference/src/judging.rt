@@ -19,7 +19,7 @@ pub struct Verdict {
 }
 
 // A record: its mark as a number, the first byte lowest, and the four bytes after it.
-#[derive(Drop)]
+#[derive(Clone, Copy)]
 pub(crate) struct Record {
     pub(crate) mark: usize,
     pub(crate) a: usize,

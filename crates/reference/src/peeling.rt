@@ -8,7 +8,7 @@ use crate::limits::MAX_BADGES;
 use crate::words::word_of;
 
 // An order, and the members of its core.
-#[derive(Drop)]
+#[derive(Clone, Copy)]
 pub(crate) struct Core {
     pub(crate) order: usize,
     pub(crate) members: u64,

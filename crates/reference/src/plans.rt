@@ -9,7 +9,7 @@ use std::num::wrapping_add_usize;
 
 // A plan up to some tick: its bytes, the tick with which the next part begins, how many parts there are, and the sum of their scores. No sum
 // comes near 2^64, where it would wrap.
-#[derive(Drop)]
+#[derive(Clone, Copy)]
 struct Plan {
     bytes: Bytes,
     next: usize,

@@ -15,7 +15,7 @@ fn next(x: u64) -> u64
 }
 
 // A number that was drawn, and the number of the sequence that it came from, where the next draw goes on.
-#[derive(Drop)]
+#[derive(Clone, Copy)]
 pub struct Drawn {
     pub number: usize,
     pub state: u64,

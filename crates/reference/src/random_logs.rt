@@ -15,7 +15,7 @@ pub struct Size {
 }
 
 // A log that was drawn, and where the next draw goes on.
-#[derive(Drop)]
+#[derive(Clone, Copy)]
 pub struct RandomLog {
     pub log: Bytes,
     pub state: u64,

@@ -39,7 +39,7 @@ fn word_at(bytes: &[u8], at: usize, size: usize) -> u64
 // The bytes of a set in a report, whose third byte says how many badges there are.
 fn width_of(report: &[u8]) -> usize
     ensures value { result ≡ (form_of (head_badges report.now)).set_bytes }
-    ensures lower_bound { (8 ≤ result) × (result ≤ 16) }
+    ensures bounds { (8 ≤ result) × (result ≤ 16) }
 {
     set_bytes(widen(byte_at(report, 2)))
 }

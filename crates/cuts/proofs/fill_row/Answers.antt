@@ -11,8 +11,8 @@ loop-t-init c = (omega arith, omega arith, omega arith, omega arith, row-none c.
 pub sum_from-requires : goal.sum_from-requires
 sum_from-requires c =
     let b = c.loop-t.invariant.4 in record {
-      c_bound = (omega arith, omega arith, omega arith, table-small _ _ b.partly.rows (omega arith) (omega arith) (omega arith));
-      none_above = (row-bound c.requires.3 (omega arith) (omega arith), rest-in-table b _ (omega arith) (omega arith) (omega arith) c.greater-rest.ensures);
+      in_table = (omega arith, omega arith, omega arith, table-small _ _ b.partly.rows (omega arith) (omega arith) (omega arith));
+      row_known = (row-bound c.requires.3 (omega arith) (omega arith), rest-in-table b _ (omega arith) (omega arith) (omega arith) c.greater-rest.ensures);
     }
 
 pub loop-t-preserved : goal.loop-t-preserved

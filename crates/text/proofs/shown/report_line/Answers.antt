@@ -33,7 +33,7 @@ overflow_add-width-2 c = omega (arith, inside (goal.at.overflow_add-width-2 c).E
 pub record_line-requires : goal.record_line-requires
 record_line-requires c =
     let e = (goal.at.record_line-requires c).Else-i-eq0 in
-    (c.width_of-width.ensures.lower_bound.0, c.width_of-width.ensures.lower_bound.1, omega (arith, inside e), c.requires.1)
+    (c.width_of-width.ensures.bounds.0, c.width_of-width.ensures.bounds.1, omega (arith, inside e), c.requires.1)
 
 pub returns : goal.returns
 returns c =

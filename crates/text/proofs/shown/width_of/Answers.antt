@@ -9,4 +9,4 @@ pub returns : goal.returns
 returns c =
     let e = c.set_bytes.ensures ∙ ap (λ (n : ℕ). (form_of n).set_bytes) (c.widen.ensures.0 ∙ c.byte_at.ensures) in
     let m = marked _ in
-    record { value = e; lower_bound = (rw e m.least, rw e m.most) }
+    record { value = e; bounds = (rw e m.least, rw e m.most) }
