@@ -2,6 +2,7 @@
 
 #![tactic(auto)]
 
+mod ones;
 mod widening;
 
 ghost use Rattle.std.specs.Prelude.{◌≡◌, ◌-◌, ◌/◌, min, eqb, get_or};
@@ -9,6 +10,7 @@ ghost use Rattle.sets.specs.Sets.{has, is_sub, intersection, union, difference, 
 ghost use Rattle.sets.specs.Words.{word_bits, lower_words, to_words, set_at, put_set};
 ghost use Rattle.sets.specs.Members.{set_of_two, members, capacity, insert};
 
+pub use ones::Ones;
 pub use widening::widen;
 
 // The bits of a word; how many words hold a set, in memory that is lent and in memory of one's own; how many badges there can be in a set; and the words of
