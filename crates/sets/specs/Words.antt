@@ -1,8 +1,7 @@
 -- A set of badges in words of 64 bits, lower badges first, and sets that stand one after the other in lent words. How many words a set has is said here
 -- alone, by `set_words`; whatever else speaks of words names these definitions.
-use Rattle.std.specs.Prelude.{◌≡◌, Option, Some, None, true, false, List, [], ◌∷◌, ◌++◌, ℕ, zero, suc, ◌+◌, ◌*◌, ◌/◌, ◌%◌, ◌^◌, ◌<◌, ltb, length, get_or, take, drop}
+use Rattle.std.specs.Prelude.{true, false, List, [], ◌∷◌, ◌++◌, ℕ, zero, suc, ◌+◌, ◌*◌, ◌/◌, ◌%◌, ◌^◌, ◌<◌, ltb, length, get_or, take, drop}
 use Rattle.std.proofs.lemmas.List.Edits.{sets}
-use Rattle.sets.specs.Sets.{difference, only, smallest}
 
 -- the bits of a word
 abbrev pub word_bits : ℕ
@@ -25,11 +24,6 @@ to_words (suc k) s = s % 2 ^ word_bits ∷ to_words k (s / 2 ^ word_bits)
 -- the set of the badges that a word has as word i of a set
 unfoldable pub in_word : ℕ → ℕ → ℕ
 in_word i w = w * 2 ^ (i * word_bits)
-
--- taking the smallest badge of a word: it has none, and stays as it is; or its smallest badge is u, and the others are left
-abbrev pub TakesSmallest : ℕ → Option ℕ → ℕ → Type 0
-TakesSmallest w None t = (w ≡ 0) × (t ≡ w)
-TakesSmallest w (Some u) t = (0 < w) × (u ≡ smallest word_bits w) × (t ≡ difference w (only u))
 
 -- how many words of a set come before its last, and how many it has
 abbrev pub lower_words : ℕ

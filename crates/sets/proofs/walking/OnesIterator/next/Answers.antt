@@ -5,7 +5,7 @@ use Prim.Native.Nat.{ℕ}
 use Rattle.sets.specs.Sets.{difference, only}
 use Rattle.sets.specs.Words.{word_bits}
 use Rattle.sets.proofs.Smallest.{smallest-trailing, without-smallest}
-use Rattle.sets.proofs.ones.OnesIterator.next.Goals as goal
+use Rattle.sets.proofs.walking.OnesIterator.next.Goals as goal
 
 pub returns-clause-steps : goal.returns-clause-steps
 returns-clause-steps c =
