@@ -1,4 +1,5 @@
 -- Judging a log that starts at an offset is judging it from 0, with the offset added to a refusal's.
+use Rattle.std.proofs.Common.{Result, Ok, Err}
 use mathlib.Core.Path.{◌≡◌, refl, sym, ap, ◌∙◌}
 use mathlib.Core.Bool.{Bool, true, false}
 use mathlib.Core.List.{List}
@@ -10,8 +11,8 @@ use Rattle.records.specs.declared.record.Kind.{Kind}
 use Rattle.records.specs.declared.record.Kind.TheVariants as k
 use Rattle.records.specs.declared.record.Record.{Record}
 use Rattle.records.specs.declared.record.Record.TheVariants.{Header, Contact, End}
-use Rattle.records.specs.declared.record.Decoded.{Decoded}
-use Rattle.records.specs.declared.record.Decoded.TheVariants as d
+use Rattle.records.specs.declared.record.Undecoded.{Undecoded}
+use Rattle.records.specs.declared.record.Undecoded.TheVariants as u
 use Rattle.records.specs.declared.judging.State.{State}
 use Rattle.records.specs.Limits.{within_limits}
 use Rattle.records.specs.Records.{size_of, kind_of, decode}
@@ -73,11 +74,11 @@ module _ (by : ℕ) (st : State) where
   unfolding judge_record judge_decoded
   record-moved s = go (decode s)
     where
-      go : (x : Decoded) → judge_decoded (moved by st) (length s) x ≡ moved_step by (judge_decoded st (length s) x)
-      go d.NoMark = refl
-      go d.UnknownMark = refl
-      go (d.Cut kind) = kind-moved kind (stop 1 st.offset)
-      go (d.Whole r) = ap (judge_kind (moved by st) (kind_of r)) (values_moved (length s - size_of (kind_of r)) r) ∙ kind-moved (kind_of r) _
+      go : (x : Result Record Undecoded) → judge_decoded (moved by st) (length s) x ≡ moved_step by (judge_decoded st (length s) x)
+      go (Err u.NoMark) = refl
+      go (Err u.UnknownMark) = refl
+      go (Err (u.Cut kind)) = kind-moved kind (stop 1 st.offset)
+      go (Ok r) = ap (judge_kind (moved by st) (kind_of r)) (values_moved (length s - size_of (kind_of r)) r) ∙ kind-moved (kind_of r) _
 
   advance-moved : (r : Record) → advance (moved by st) r ≡ moved by (advance st r)
   advance-moved (Header n T) = ap (λ (o : ℕ). record { offset = o; headers = st.headers + 1; contacts = st.contacts; badges = n; ticks = T }) (add_assoc by st.offset 4)

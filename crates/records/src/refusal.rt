@@ -1,8 +1,21 @@
+// Why a call refuses, in the papers' terms: its number, and the byte offset that goes with it.
+pub trait Reason {
+    ghost number: { Self → ℕ };
+
+    ghost offset: { Self → ℕ };
+
+    fn number(self) -> u8
+        ensures { result ≡ number self };
+
+    fn offset(self) -> usize
+        ensures { result ≡ offset self };
+}
+
 // Why a call of the log part refuses: one case for each number of document 01 that it can give.
-ghost use Rattle.std.specs.Prelude.{◌≡◌};
+ghost use Rattle.std.specs.Prelude.{◌≡◌, ℕ};
 ghost use Rattle.records.specs.Outcomes.{number_of, offset_of};
 
-#[derive(Clone, Copy)]
+#[derive(Clone, Copy, Debug, PartialEq, Eq)]
 pub enum Refusal {
     // 1: the bytes end inside a record, or where one must start.
     CutShort { at: usize },
@@ -30,19 +43,20 @@ pub enum Refusal {
     TooManyToWrite,
 }
 
-impl Refusal {
-    // The number of a refusal in document 01.
-    pub fn number(self) -> u8
-        ensures { result ≡ number_of self }
-    {
+impl Reason for Refusal {
+    ghost number = { number_of };
+
+    ghost offset = { offset_of };
+
+    fn number(self) -> u8 {
         match self {
-            Refusal::CutShort { at: _ } => 1,
-            Refusal::WrongMark { at: _ } => 2,
-            Refusal::HeaderOutOfLimits { at: _ } => 3,
-            Refusal::InvalidContact { at: _ } => 4,
-            Refusal::TooManyContacts { at: _ } => 5,
-            Refusal::WrongCount { at: _ } => 6,
-            Refusal::TrailingBytes { at: _ } => 7,
+            Refusal::CutShort { .. } => 1,
+            Refusal::WrongMark { .. } => 2,
+            Refusal::HeaderOutOfLimits { .. } => 3,
+            Refusal::InvalidContact { .. } => 4,
+            Refusal::TooManyContacts { .. } => 5,
+            Refusal::WrongCount { .. } => 6,
+            Refusal::TrailingBytes { .. } => 7,
             Refusal::TooFewWords => 8,
             Refusal::BufferTooShort => 9,
             Refusal::SizeOutOfLimits => 10,
@@ -51,10 +65,7 @@ impl Refusal {
         }
     }
 
-    // The byte offset that goes with it.
-    pub fn offset(self) -> usize
-        ensures { result ≡ offset_of self }
-    {
+    fn offset(self) -> usize {
         match self {
             Refusal::CutShort { at } => at,
             Refusal::WrongMark { at } => at,

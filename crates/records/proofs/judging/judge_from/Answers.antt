@@ -1,12 +1,11 @@
 -- `judge_from` meets its contract: no bytes are cut short, and at each turn the verdict on the log is the verdict on the rest from the state reached.
-use mathlib.Core.Path.{◌≡◌, sym, ap, ◌∙◌}
-use native.Mathlib.Omega.{arith}
-use lib.ListN.{drop}
-use Rattle.records.specs.declared.judging.State.{State}
+use Rattle.std.proofs.Common.{◌≡◌, sym, ap, ◌∙◌, drop, arith, Result, Ok}
+use Rattle.std.proofs.lemmas.Result.{err_from_is_err_and}
 use Rattle.records.specs.declared.judging.Step.{Step}
 use Rattle.records.specs.declared.judging.Step.TheVariants as s
 use Rattle.records.specs.declared.record.Record.{Record}
-use Rattle.records.specs.Judging.{Judgement, advance, next, judge_record}
+use Rattle.records.specs.declared.refusal.Refusal.{Refusal}
+use Rattle.records.specs.Judging.{advance, judge_record}
 use Rattle.records.specs.Steps.{step_of}
 use Rattle.records.proofs.Verdicts.{Reached, nothing-there, bounded, reached-start, reached-next, advance-bounded, reached-stop, reached-done, offset-grows, rest-is}
 use Rattle.records.proofs.judging.judge_from.Goals as goal
@@ -21,34 +20,37 @@ loop-record-init c = rw c.start-state.ensures (reached-start _ _ c.if-buffer-off
 pub judge_record-requires : goal.judge_record-requires
 judge_record-requires c = bounded c.loop-record.invariant c.well_formed.0.0
 
--- the judgement is that of all that is left
-told : (c : goal.After-judge_record) → step_of c.judge_record.result ≡ judge_record c.loop-record.state (drop c.loop-record.state.offset c.args.buffer.now)
-told c =
+-- what was answered of a record is the judgement of all that is left
+told : (c : goal.After-judge_record) (x : Result Step Refusal) → c.judge_record.result ≡ x
+    → judge_record c.loop-record.state (drop c.loop-record.state.offset c.args.buffer.now) ≡ step_of x
+told c x e =
     let buffer = c.args.buffer.now in
     let st = c.loop-record.state in
-    c.judge_record.ensures ∙ ap (judge_record st) (rest-is buffer st.offset)
+    sym (c.judge_record.ensures ∙ ap (judge_record st) (rest-is buffer st.offset)) ∙ ap step_of e
 
 -- the judgement of a record that lets judging go on
-goes : (x : Step) (r : Record) {j : Judgement} → step_of x ≡ j → x ≡ s.Next r → j ≡ next r
-goes x r f e = sym f ∙ ap step_of e
-
-pub advance-after-requires : goal.advance-after-requires
-advance-after-requires c = advance-bounded _ _ _ _ c.loop-record.invariant c.well_formed.0.0 (goes _ _ (told (goal.at.advance-after-requires c).After-judge_record) c.in-Next.is)
+pub advance-state-requires : goal.advance-state-requires
+advance-state-requires c =
+    advance-bounded _ _ _ _ c.loop-record.invariant c.well_formed.0.0 (told (goal.at.advance-state-requires c).After-judge_record _ (c.in_ok-record.was ∙ ap Ok c.in-Next.is))
 
 -- the state after it is reached
-onward : (c : goal.After-judge_record) (r : Record) → c.judge_record.result ≡ s.Next r → Reached c.args.buffer.now c.args.offset (advance c.loop-record.state r)
-onward c r e = reached-next _ _ _ _ c.loop-record.invariant (goes _ _ (told c) e)
+onward : (c : goal.After-judge_record) (r : Record) → c.judge_record.result ≡ Ok (s.Next r) → Reached c.args.buffer.now c.args.offset (advance c.loop-record.state r)
+onward c r e = reached-next _ _ _ _ c.loop-record.invariant (told c _ e)
 
 pub loop-record-smaller : goal.loop-record-smaller
 loop-record-smaller c =
-    let e : c.advance-after.result.offset ≡ (advance c.loop-record.state c.in-Next.«record»).offset = ap (λ (x : State). x.offset) c.advance-after.ensures in
-    omega (arith, offset-grows c.loop-record.state c.in-Next.«record», (onward (goal.at.loop-record-smaller c).After-judge_record _ c.in-Next.is).inside)
+    let r = c.in-Next.«record» in
+    let o = onward (goal.at.loop-record-smaller c).After-judge_record r (c.in_ok-record.was ∙ ap Ok c.in-Next.is) in
+    rw c.advance-state.ensures (omega (arith, offset-grows c.loop-record.state r, o.inside))
 
 pub loop-record-preserved : goal.loop-record-preserved
-loop-record-preserved c = rw c.advance-after.ensures (onward (goal.at.loop-record-preserved c).After-judge_record _ c.in-Next.is)
+loop-record-preserved c =
+    rw c.advance-state.ensures (onward (goal.at.loop-record-preserved c).After-judge_record _ (c.in_ok-record.was ∙ ap Ok c.in-Next.is))
 
-pub returns-in-Done : goal.returns-in-Done
-returns-in-Done c = sym (reached-done _ _ _ _ c.loop-record.invariant (sym (told (goal.at.returns-in-Done c).After-judge_record) ∙ ap step_of c.in-Done.is))
+pub returns-in_err-record : goal.returns-in_err-record
+returns-in_err-record c =
+    let p = err_from_is_err_and c.from_residual.result c.from_residual.ensures.1 in
+    rw (p.1, p.2) (sym (reached-stop _ _ _ _ _ c.loop-record.invariant (told (goal.at.returns-in_err-record c).After-judge_record _ c.in_err-record.was)))
 
-pub returns-in-Refused : goal.returns-in-Refused
-returns-in-Refused c = sym (reached-stop _ _ _ _ _ c.loop-record.invariant (sym (told (goal.at.returns-in-Refused c).After-judge_record) ∙ ap step_of c.in-Refused.is))
+pub returns : goal.returns
+returns c = sym (reached-done _ _ _ _ c.loop-record.invariant (told (goal.at.returns c).After-judge_record _ (c.in_ok-record.was ∙ ap Ok c.in_default.is)))

@@ -1,72 +1,52 @@
 -- `judge_record` meets its contract: what is decoded is judged by its kind, and a whole record by its values.
-use mathlib.Core.Path.{◌≡◌, refl, sym, ap, ◌∙◌}
-use Prim.Native.Nat.{ℕ, ◌-◌}
-use native.Mathlib.Omega.{arith}
-use lib.ListN.{length}
+use Rattle.std.proofs.Common.{◌≡◌, sym, ap, ◌∙◌, ℕ, ◌-◌, List, length, arith, Ok, Err}
+use Rattle.std.proofs.lemmas.Result.{err_from_is_err_and}
 use Rattle.records.specs.declared.record.Kind.{Kind}
 use Rattle.records.specs.declared.record.Record.{Record}
-use Rattle.records.specs.declared.record.Decoded.TheVariants as d
+use Rattle.records.specs.declared.record.Undecoded.TheVariants as u
 use Rattle.records.specs.declared.judging.State.{State}
-use Rattle.records.specs.declared.judging.Standing.{Standing}
 use Rattle.records.specs.Records.{kind_of, size_of, decode}
 use Rattle.records.specs.Judging.{Judgement, stop, judge_kind, judge_values, judge_record}
-use Rattle.records.specs.Steps.{unless_refused}
 use Rattle.records.proofs.Records.{whole-size}
 use Rattle.records.proofs.Judged.{judge-none, judge-unknown, judge-cut, judge-whole}
 use Rattle.records.proofs.judging.judge_record.Goals as goal
-use Rattle.records.proofs.judging.judge_record.Goals.{After-judge_kind, After-judge_kind-in-Whole, After-size_of}
 
--- the judgement of a kind, by the answer of `judge_kind`
-stands : (st : State) (kind same : Kind) (x y : Standing) (further : Judgement) → ((j : Judgement) → judge_kind st kind j ≡ unless_refused x j) → kind ≡ same → x ≡ y
-    → unless_refused y further ≡ judge_kind st same further
-stands st kind same x y further h e f = rw (← e, ← f) (sym (h further))
+-- Bytes that begin with a record, cut short or whole, are judged as its kind is, where the rest of the judgements would follow.
+module _ (st : State) (s : List ℕ) (kind : Kind) (j : Judgement) where
+  cut : decode s ≡ Err (u.Cut kind) → judge_kind st kind (stop 1 st.offset) ≡ j → j ≡ judge_record st s
+  cut e f = sym (judge-cut st s kind e ∙ f)
 
--- the judgement of a record that is cut short
-cut : (c : goal.After-judge_kind) (x : Standing) → c.judge_kind.result ≡ x
-    → unless_refused x (stop 1 c.args.state.offset) ≡ judge_record c.args.state c.args.rest.now
-cut c x e = stands _ _ _ _ _ _ c.judge_kind.ensures refl e ∙ sym (judge-cut _ _ _ (sym c.decode.ensures ∙ c.in-Cut.is))
+  whole : (r : Record) → decode s ≡ Ok r → kind ≡ kind_of r → judge_kind st kind (judge_values st (length s - size_of kind) r) ≡ j → j ≡ judge_record st s
+  whole r e f g = sym (judge-whole st s r e ∙ rw (← f) g)
 
--- the record that was decoded, its judgement where so many bytes of it are passed, and that it begins the bytes
-abbrev record_of : goal.After-judge_kind-in-Whole → Record
-record_of c = c.in-Whole.«record»
-
-abbrev values_of : goal.After-judge_kind-in-Whole → ℕ → Judgement
-values_of c size = judge_values c.args.state (length c.args.rest.now - size) (record_of c)
-
-decoded : (c : goal.After-judge_kind-in-Whole) → decode c.args.rest.now ≡ d.Whole (record_of c)
-decoded c = sym c.decode.ensures ∙ c.in-Whole.is
-
--- the judgement of a whole record
-whole : (c : goal.After-judge_kind-in-Whole) (x : Standing) → c.judge_kind-in-Whole.result ≡ x
-    → unless_refused x (values_of c (size_of (kind_of (record_of c)))) ≡ judge_record c.args.state c.args.rest.now
-whole c x e = stands _ _ _ _ _ _ c.judge_kind-in-Whole.ensures c.kind_of.ensures e ∙ sym (judge-whole _ _ _ (decoded c))
-
--- the size that is subtracted is that of the record
-size_is : (c : goal.After-size_of) → c.size_of.result ≡ size_of (kind_of c.in-Whole.«record»)
-size_is c = c.size_of.ensures ∙ ap size_of c.kind_of-in-Allowed-judge_kind.ensures
+pub returns-in_err-judge_kind-in-Ok : goal.returns-in_err-judge_kind-in-Ok
+returns-in_err-judge_kind-in-Ok c =
+    let p = err_from_is_err_and c.from_residual.result c.from_residual.ensures.1 in
+    rw (p.1, p.2) (whole _ _ _ _ _ (sym c.in-Ok.ensures) c.kind_of-kind.ensures (c.in_err-judge_kind-in-Ok.ensures _))
 
 pub overflow_sub-rest : goal.overflow_sub-rest
-overflow_sub-rest c = omega (arith, size_is (goal.at.overflow_sub-rest c).After-size_of, whole-size _ _ (decoded (goal.at.overflow_sub-rest c).After-judge_kind-in-Whole))
+overflow_sub-rest c = omega (arith, whole-size _ _ (sym c.in-Ok.ensures), ap size_of c.kind_of-kind.ensures)
 
 pub judge_values-requires : goal.judge_values-requires
 judge_values-requires c =
     let p = c.requires in
-    record { room = omega (arith, whole-size _ _ (decoded (goal.at.judge_values-requires c).After-judge_kind-in-Whole)); one = p.one; few = p.few }
+    record { room = omega (arith, whole-size _ _ (sym c.in-Ok.ensures)); one = p.one; few = p.few }
 
-pub returns-in-NoMark : goal.returns-in-NoMark
-returns-in-NoMark c = sym (judge-none _ _ (sym c.decode.ensures ∙ c.in-NoMark.is))
+pub returns-in_err-judge_kind-in-Err-Cut : goal.returns-in_err-judge_kind-in-Err-Cut
+returns-in_err-judge_kind-in-Err-Cut c =
+    let f = c.from_residual-in_err-judge_kind-in-Err-Cut in
+    let p = err_from_is_err_and f.result f.ensures.1 in
+    rw (p.1, p.2) (cut _ _ _ _ (sym c.in-Err-Cut.ensures ∙ ap Err c.in-Err-Cut.field-0-is) (c.in_err-judge_kind-in-Err-Cut.ensures _))
 
-pub returns-in-UnknownMark : goal.returns-in-UnknownMark
-returns-in-UnknownMark c = sym (judge-unknown _ _ (sym c.decode.ensures ∙ c.in-UnknownMark.is))
+pub returns-in_ok-judge_kind-in-Ok : goal.returns-in_ok-judge_kind-in-Ok
+returns-in_ok-judge_kind-in-Ok c =
+    rw (c.judge_values.ensures, c.size_of.ensures) (whole _ _ _ _ _ (sym c.in-Ok.ensures) c.kind_of-kind.ensures (c.in_ok-judge_kind-in-Ok.ensures _))
 
-pub returns-in-Refused : goal.returns-in-Refused
-returns-in-Refused c = cut (goal.at.returns-in-Refused c).After-judge_kind _ c.in-Refused.is
+pub returns-in_ok-judge_kind-in-Err-Cut : goal.returns-in_ok-judge_kind-in-Err-Cut
+returns-in_ok-judge_kind-in-Err-Cut c = cut _ _ _ _ (sym c.in-Err-Cut.ensures ∙ ap Err c.in-Err-Cut.field-0-is) (c.in_ok-judge_kind-in-Err-Cut.ensures _)
 
-pub returns-in-Allowed : goal.returns-in-Allowed
-returns-in-Allowed c = cut (goal.at.returns-in-Allowed c).After-judge_kind _ c.in-Allowed.is
+pub returns-in-Err-UnknownMark : goal.returns-in-Err-UnknownMark
+returns-in-Err-UnknownMark c = sym (judge-unknown _ _ (sym c.in-Err-UnknownMark.ensures ∙ ap Err c.in-Err-UnknownMark.field-0-is))
 
-pub returns-in-Refused-judge_kind : goal.returns-in-Refused-judge_kind
-returns-in-Refused-judge_kind c = whole (goal.at.returns-in-Refused-judge_kind c).After-judge_kind-in-Whole _ c.in-Refused-judge_kind.is
-
-pub returns-in-Allowed-judge_kind : goal.returns-in-Allowed-judge_kind
-returns-in-Allowed-judge_kind c = c.judge_values.ensures ∙ ap (values_of (goal.at.returns-in-Allowed-judge_kind c).After-judge_kind-in-Whole) (size_is (goal.at.returns-in-Allowed-judge_kind c).After-size_of) ∙ whole (goal.at.returns-in-Allowed-judge_kind c).After-judge_kind-in-Whole _ c.in-Allowed-judge_kind.is
+pub returns-in-Err-NoMark : goal.returns-in-Err-NoMark
+returns-in-Err-NoMark c = sym (judge-none _ _ (sym c.in-Err-NoMark.ensures ∙ ap Err c.in-Err-NoMark.field-0-is))

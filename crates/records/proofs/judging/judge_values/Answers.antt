@@ -12,7 +12,7 @@ same_size : {x y : Record} → x ≡ y → size_of (kind_of x) ≡ size_of (kind
 same_size e = ap (λ (r : Record). size_of (kind_of r)) e
 
 pub returns-then-not-within_limits : goal.returns-then-not-within_limits
-returns-then-not-within_limits c = rw c.in-Header.is (sym (header-bad _ _ _ _ (sym c.within_limits.ensures ∙ c.if-not-within_limits.true)))
+returns-then-not-within_limits c = rw (c.in-Header.is, ← c.from.ensures, ← c.from-in-Header.ensures) (sym (header-bad _ _ _ _ (sym c.within_limits.ensures ∙ c.if-not-within_limits.true)))
 
 pub returns-then-not-valid_contact : goal.returns-then-not-valid_contact
 returns-then-not-valid_contact c = rw c.in-Contact.is (sym (contact-bad _ _ _ _ _ _ (sym c.valid_contact.ensures ∙ c.if-not-valid_contact.true)))
@@ -27,7 +27,7 @@ pub returns-then-left-ne0 : goal.returns-then-left-ne0
 returns-then-left-ne0 c = rw (c.size_of.ensures, c.in-End.is) (sym (end-trailing _ _ _ (eq-eqb _ _ c.if-count-state.false) (ne_eqb _ _ c.if-left-ne0.true)))
 
 pub returns-else-not-within_limits : goal.returns-else-not-within_limits
-returns-else-not-within_limits c = rw c.in-Header.is (sym (header-good _ _ _ _ (sym c.within_limits.ensures ∙ c.if-not-within_limits.false)))
+returns-else-not-within_limits c = rw (c.in-Header.is, ← c.from.ensures, ← c.from-in-Header.ensures) (sym (header-good _ _ _ _ (sym c.within_limits.ensures ∙ c.if-not-within_limits.false)))
 
 pub returns-else-not-valid_contact : goal.returns-else-not-valid_contact
 returns-else-not-valid_contact c = rw c.in-Contact.is (sym (contact-good _ _ _ _ _ _ (sym c.valid_contact.ensures ∙ c.if-not-valid_contact.false)))
