@@ -29,33 +29,6 @@ has-set m p t h = same_test _ _ (λ e. of-set m p t (in-test _ t e)) (λ e. has-
 has-none : (m : ℕ) (p : ℕ → Bool) (t : ℕ) → m ≤ t → has (set_of m p) t ≡ false
 has-none m p t h = to-false _ (λ e. let l = of-set-lt m p t (in-test _ t e) in omega arith)
 
--- bits added to the columns of the badges of a set, word by word
-pub united-words : (table : List ℕ) (s bits : ℕ) → s < 2 ^ capacity
-    → united (united table (in_word 0 (get_or (to_words lower_words s) 0 0)) bits) (in_word 1 (get_or (to_words lower_words s) 1 0)) bits ≡ united table s bits
-unfolding united
-united-words table s bits h = tabulate-same capacity _ _ (λ v l. by_cases (ℕ_discrete (bit high v) 1)
-    (λ i.
-    let x = word_of s h 1 v i in
-    piecewise-in high _ _ v i
-    ∙ ap (λ (y : ℕ). union y bits) (tabulate-at capacity _ v l ∙ piecewise-out low f g v (λ j. let y = word_of s h 0 v j in omega (arith, x.0, y.0)))
-    ∙ sym (piecewise-in s f g v x.1))
-    (λ k.
-    piecewise-out high _ _ v k ∙ tabulate-at capacity _ v l
-    ∙ piecewise_same low s f g v (λ j. (word_of s h 0 v j).1)
-    (λ j. word-has s h 0 v j (by_cases (dec_lt v word_bits) (λ m. omega arith) (λ m. absurd (k (word-has s h 1 v j (omega arith))))))))
-  where
-    low : ℕ
-    low = in_word 0 (get_or (to_words lower_words s) 0 0)
-
-    high : ℕ
-    high = in_word 1 (get_or (to_words lower_words s) 1 0)
-
-    f : ℕ → ℕ
-    f = λ v. union (get_or table v 0) bits
-
-    g : ℕ → ℕ
-    g = λ v. get_or table v 0
-
 module _ (n : ℕ) (ws : List ℕ) (u from : ℕ) where
   -- before the first tick all columns are empty
   pub columns-none : Columns n ws u from 0 (replicate capacity 0)
