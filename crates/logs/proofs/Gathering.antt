@@ -1,23 +1,20 @@
 -- Laws of the columns of a badge: for each larger one, the ticks in which they meet.
-use mathlib.Core.Path.{◌≡◌, refl, sym, ap, ◌∙◌}
+use mathlib.Core.Path.{◌≡◌, refl, ap, ◌∙◌}
 use mathlib.Core.Bool.{Bool, true, false}
 use mathlib.Core.List.{List}
-use mathlib.Core.Logic.{by_cases}
-use Prim.Native.Nat.{ℕ, ◌+◌, ◌-◌, ◌^◌, ◌≤◌, ◌<◌, min}
-use native.Mathlib.Decide.{ℕ_discrete, dec_lt}
+use Prim.Native.Nat.{ℕ, ◌+◌, ◌-◌, ◌≤◌, ◌<◌, min}
 use native.Mathlib.Omega.{arith}
 use lib.Dec.{ltb}
 use lib.ListN.{get_or, replicate, get_or-replicate}
 use borrow.Author.Tests.{ltb-true, ltb-false}
-use Rattle.sets.specs.Sets.{bit, has, set_of, union, difference, only, full}
+use Rattle.sets.specs.Sets.{has, set_of, union, difference, only, full}
 use Rattle.sets.specs.Members.{capacity}
-use Rattle.sets.specs.Words.{word_bits, lower_words, to_words, in_word}
+use Rattle.sets.specs.Words.{word_bits}
 use Rattle.sets.specs.Tables.{piecewise}
 use Rattle.sets.proofs.Bools.{same_test, to-false}
 use Rattle.sets.proofs.Sets.{in-test, has-test, out-test, in-set, of-set, of-set-lt, of-difference, in-difference, of-full, set-yes, set-no}
-use Rattle.sets.proofs.Tables.{tabulate-length, tabulate-at, tabulate-same, piecewise-in, piecewise-out, piecewise_same}
+use Rattle.sets.proofs.Tables.{tabulate-length, tabulate-at, piecewise-in, piecewise-out}
 use Rattle.days.specs.Days.{neighbours, adjacent}
-use Rattle.sets.proofs.InWord.{word-has, word_of}
 use Rattle.logs.specs.declared.ticks.TickSet.{TickSet}
 use Rattle.logs.specs.TickSets.{tick_capacity, has_tick, TicksBelow, united, Columns}
 use Rattle.logs.proofs.TickSets.{has-low, has-high}

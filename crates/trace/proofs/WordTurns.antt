@@ -1,20 +1,16 @@
 -- Laws of sets by their two words, for the sweep: those who pass on and are in contact with a badge.
-use mathlib.Core.Path.{◌≡◌, refl, sym, ap, ap₂, ◌∙◌}
+use mathlib.Core.Path.{◌≡◌, refl, sym, ap₂, ◌∙◌}
 use mathlib.Core.List.{List, [], ◌∷◌, zip_with}
-use mathlib.Core.Logic.{by_cases}
 use Prim.Native.Nat.{ℕ, ◌+◌, ◌*◌, ◌^◌, ◌<◌}
-use native.Mathlib.Decide.{dec_lt}
 use native.Mathlib.Omega.{arith}
 use lib.Bits.{bit_and, and_zero_r}
 use lib.ListN.{get_or}
-use Rattle.sets.specs.Sets.{In, Sub, intersection, difference, only}
+use Rattle.sets.specs.Sets.{intersection}
 use Rattle.sets.specs.Members.{capacity}
-use Rattle.sets.specs.Words.{word_bits, Words, from_words, to_words, in_word, lower_words, set_words, places, set_at}
-use Rattle.sets.proofs.Sets.{not-in-none, in-difference, of-difference, in-only, of-only, in-lt, ext, difference-none}
+use Rattle.sets.specs.Words.{Words, from_words, to_words, lower_words, set_words, places, set_at}
 use Rattle.sets.proofs.Words.{to-words-words, from-to-words}
 use Rattle.sets.proofs.WordByWord.{words-intersection}
 use Rattle.sets.proofs.Pairs.{two-words}
-use Rattle.sets.proofs.InWord.{word-has, word_of}
 use Rattle.sets.proofs.Places.{set-at-two}
 
 -- those who are in the set at a place and in another, word by word; where the other has an empty second word, the first has them all

@@ -1,20 +1,16 @@
 -- gather_columns meets its contract: before tick t of the loop the columns hold the ticks before t.
 use mathlib.Core.Path.{◌≡◌, ap, ap₂, ◌∙◌}
-use mathlib.Core.List.{List}
-use Prim.Native.Nat.{ℕ, ◌+◌, ◌*◌, ◌-◌, ◌≤◌, min}
+use Prim.Native.Nat.{◌+◌, ◌*◌, ◌-◌, ◌≤◌, min}
 use native.Mathlib.Omega.{arith}
-use lib.ListN.{length, get_or}
 use borrow.Author.Rules.{rules}
 use Rattle.sets.specs.Sets.{difference, only, full}
 use Rattle.sets.specs.Members.{capacity, members}
-use Rattle.sets.specs.Words.{word_bits, in_word, to_words, lower_words}
+use Rattle.sets.specs.Words.{word_bits}
 use Rattle.sets.proofs.Bits.{one_shl}
-use Rattle.sets.proofs.Tables.{tabulate-length}
-use Rattle.sets.proofs.Pairs.{members-lt}
 use Rattle.days.specs.Days.{neighbours}
 use Rattle.days.proofs.Days.{tick-fits}
 use Rattle.logs.specs.TickSets.{united}
-use Rattle.logs.proofs.Gathering.{united-words, columns-none, columns-more}
+use Rattle.logs.proofs.Gathering.{columns-none, columns-more}
 use Rattle.logs.proofs.columns.gather_columns.Goals as goal
 use Rattle.logs.proofs.columns.gather_columns.Goals.{After-unite, In-loop-t}
 

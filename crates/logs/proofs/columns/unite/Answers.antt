@@ -20,7 +20,7 @@ loop-v-init c =
     let a = c.args in
     let full : length a.columns.now ≡ capacity = search rules in
     rw (c.into_iter-v-iterator.ensures.into_iter_gives, c.badges-v-items.ensures)
-        (sub_refl _, tabulate-is capacity a.columns.now _ full (λ i l. refl) ∙ fill_start capacity (members a.badges) _ _)
+    (sub_refl _, tabulate-is capacity a.columns.now _ full (λ i l. refl) ∙ fill_start capacity (members a.badges) _ _)
 
 -- the badge at hand is one of those to come, and there is a column for it
 here : (c : goal.In-Some) → In (members c.loop-v.v-iterator.left) c.in-Some.v × (c.in-Some.v < capacity)

@@ -1,6 +1,6 @@
 -- `pass_tick` meets its contract: the badges that were not reached before have had their turn, but for those that are still to come.
 use mathlib.Core.Path.{◌≡◌, refl, ap, ◌∙◌}
-use Prim.Native.Nat.{ℕ, ◌+◌, ◌^◌, ◌<◌, min}
+use Prim.Native.Nat.{ℕ, ◌^◌, ◌<◌, min}
 use native.Mathlib.Omega.{arith}
 use lib.ListN.{length}
 use borrow.Author.Rules.{rules}

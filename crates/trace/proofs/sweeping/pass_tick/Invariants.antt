@@ -1,6 +1,6 @@
 -- `pass_tick` meets its contract: the badges that were not reached before have had their turn, but for those that are still to come.
 use mathlib.Core.Path.{◌≡◌}
-use Prim.Native.Nat.{ℕ, ◌+◌}
+use Prim.Native.Nat.{◌+◌}
 use lib.ListN.{length}
 use Rattle.sets.specs.Members.{members}
 use Rattle.sets.specs.Words.{set_at}
