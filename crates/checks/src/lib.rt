@@ -4,7 +4,6 @@
 
 #![tactic(auto)]
 
-mod bits;
 mod checking;
 mod comparing;
 mod rows;

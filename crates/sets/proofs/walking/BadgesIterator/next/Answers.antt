@@ -1,6 +1,5 @@
 -- `Badges::next` meets its contract: where the set is not empty, its smallest badge is a member of it, so one badge fewer is left.
 use mathlib.Core.Path.{◌≡◌, refl, sym, ◌∙◌}
-use Prim.Native.Nat.{◌<◌}
 use native.Mathlib.Omega.{arith}
 use borrow.Author.Rules.{rules}
 use borrow.Author.Tests.{eqb-true, eqb-false, eq-eqb, ne_eqb}
