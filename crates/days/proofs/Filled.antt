@@ -1,4 +1,5 @@
 -- Filling the words from an accepted log, record by record: the loop's invariant and its laws.
+use Rattle.std.proofs.Common.{Result, Ok}
 use mathlib.Core.Path.{◌≡◌, refl, sym, ap, ◌∙◌, subst}
 use mathlib.Core.Bool.{true}
 use mathlib.Core.List.Memᴰ
@@ -10,8 +11,8 @@ use lib.ListN.{length, drop, replicate, length-drop, length-append, length-repli
 use lib.Seq.{drop-drop, drop_at}
 use Rattle.sets.specs.Bytes.{Bytes}
 use Rattle.records.specs.declared.record.Record.{Record}
+use Rattle.records.specs.declared.record.Undecoded.{Undecoded}
 use Rattle.records.specs.declared.record.Record.TheVariants.{End}
-use Rattle.records.specs.declared.record.Decoded.TheVariants as d
 use Rattle.records.specs.Limits.{max_contacts, within_limits, words_for}
 use Rattle.records.specs.Records.{size_of, kind_of, decode, encode, encode_all}
 use Rattle.records.specs.Outcomes.{success}
@@ -87,7 +88,7 @@ filling-start log n T rest words b a e =
 -- Where bytes are left, they begin with a whole record of the log; once it is marked, the words hold it too.
 pub record Found (log : List ℕ) (n T at : ℕ) (rest words : List ℕ) : Type 0 where
   pub r : Record
-  pub whole : decode (drop at log) ≡ d.Whole r
+  pub whole : decode (drop at log) ≡ Ok r
   pub admissible : Admissible n T r
   pub fits : at + size_of (kind_of r) ≤ length log
   pub next : (after : List ℕ) → Marks n r words after → Filling log n T (at + size_of (kind_of r)) rest after
@@ -135,7 +136,7 @@ filling-done log n T at rest words a f h rs e = go f.left f.accepted f.bytes
     go (r ∷ left) g b = absurd (omega (arith, length-drop at log, ap length b, length-append (encode r) (encode_all left), length-encode r, size-pos (kind_of r)))
 
 -- what was decoded as a whole record is that record
-pub whole_part : {x y : Record} → d.Whole x ≡ d.Whole y → x ≡ y
+pub whole_part : {x y : Record} → ◌≡◌ {A = Result Record Undecoded} (Ok x) (Ok y) → x ≡ y
 whole_part e = cc
 
 -- an accepted log's n and T are within their limits, and its records fit where its words are there

@@ -1,21 +1,23 @@
 -- Laws of reading a series: what judging the logs tells, and what the call leaves, in the order of judging.
 use mathlib.Core.Path.{◌≡◌, refl, sym, ap, ap₂, ◌∙◌}
-use mathlib.Core.Bool.{true, false}
+use mathlib.Core.Bool.{Bool, true, false}
 use mathlib.Core.List.{List, [], ◌∷◌, ◌++◌}
 use Prim.Native.Nat.{ℕ, ◌*◌, ◌≤◌, ◌<◌}
 use native.Mathlib.Omega.{arith}
 use lib.ListN.{length, drop}
 use Rattle.records.specs.declared.record.Record.{Record}
 use Rattle.records.specs.Limits.{max_badges, words_for, max_words}
-use Rattle.records.specs.Outcomes.{Outcome, refused, success, and_then}
-use Rattle.records.proofs.Outcomes.{refused-success, refused-same, success-same, then-passed}
+use Rattle.records.specs.Outcomes.{Outcome, refused, success, refuse_if, and_then}
+use Rattle.records.proofs.Outcomes.{refused-success, refused-same, success-same, refuse-passed, then-passed}
 use Rattle.records.proofs.Accepting.{accepted-of}
 use Rattle.records.proofs.WithinLimits.{limits_of, words-most}
-use Rattle.days.specs.declared.sizes.Sizes.{Sizes}
+use Rattle.sets.specs.Bools.{◌or◌, isnt}
+use Rattle.sets.proofs.Bools.{isnt-false}
+use lib.Dec.{ltb}
 use Rattle.series.specs.Series.{parts, judge_logs, badges_in, ticks_in, have_size, day_size, all_size, judge_series, Size, common_size}
 use Rattle.days.specs.Series.{days_of, SeriesRead, series_judged, read_series_of}
-use Rattle.days.specs.SeriesSteps.{sizes_in, sizes_of, Fillable, Filled}
-use Rattle.series.proofs.SeriesJudged.{size-of, fronted, records-count, parts-count, series-refused, series-different, series-little, series-few, series-success}
+use Rattle.days.specs.SeriesSteps.{sizes_of, Fillable, Filled}
+use Rattle.series.proofs.SeriesJudged.{size-of, fronted, records-count, parts-count, series-little, series-few, series-success}
 
 abbrev pub left : Outcome Size → List ℕ → SeriesRead
 left answer words = record { answer = answer; words = words }
@@ -23,32 +25,27 @@ left answer words = record { answer = answer; words = words }
 pub leaves : {x : SeriesRead} {answer : Outcome Size} {words : List ℕ} → x ≡ left answer words → (answer ≡ x.answer) × (words ≡ x.words)
 leaves e = (sym (ap (λ (x : SeriesRead). x.answer) e), sym (ap (λ (x : SeriesRead). x.words) e))
 
--- what was refused
-pub sizes-refused-of : (o : Outcome (List (List Record))) (number offset : ℕ) → sizes_of o ≡ refused number offset → o ≡ refused number offset
-unfolding sizes_of and_then
-sizes-refused-of (refused k p) number offset e = refused-same e
-sizes-refused-of (success all) number offset e = absurd (refused-success (sym e))
-
--- accepted logs, and what is known of them
-pub record Told (logs lengths : List ℕ) (sizes : Sizes) : Type 0 where
+-- accepted logs of one size
+pub record Told (logs lengths : List ℕ) (size : Size) : Type 0 where
   pub all : List (List Record)
   pub judged : judge_logs 0 (parts logs lengths) ≡ success all
-  pub badges : badges_in all ≡ sizes.badges
-  pub ticks : ticks_in all ≡ sizes.ticks
-  pub alike : have_size (badges_in all) (ticks_in all) all ≡ sizes.alike
+  pub badges : badges_in all ≡ size.badges
+  pub ticks : ticks_in all ≡ size.ticks
+  pub alike : have_size (badges_in all) (ticks_in all) all ≡ true
   pub counted : length all ≡ length lengths
 
-pub sizes-told : (logs lengths : List ℕ) (sizes : Sizes) → sizes_of (judge_logs 0 (parts logs lengths)) ≡ success sizes → Told logs lengths sizes
-unfolding sizes_of sizes_in
-sizes-told logs lengths sizes e =
+pub sizes-told : (logs lengths : List ℕ) (size : Size) → sizes_of (judge_logs 0 (parts logs lengths)) ≡ success size → Told logs lengths size
+unfolding sizes_of common_size
+sizes-told logs lengths size e =
     let p = then-passed (judge_logs 0 (parts logs lengths)) _ e in
-    let s = success-same p.2 in
+    let q = refuse-passed _ _ _ _ p.2 in
+    let s = success-same q.1 in
     record {
       all = p.0;
       judged = p.1;
-      badges = ap (λ (x : Sizes). x.badges) s;
-      ticks = ap (λ (x : Sizes). x.ticks) s;
-      alike = ap (λ (x : Sizes). x.alike) s;
+      badges = ap (λ (x : Size). x.badges) s;
+      ticks = ap (λ (x : Size). x.ticks) s;
+      alike = isnt-false _ q.0;
       counted = records-count 0 (parts logs lengths) p.0 p.1 ∙ parts-count logs lengths;
     }
 
@@ -67,14 +64,14 @@ series-most (log ∷ logs) all e =
     let f = fronted 0 log logs all e in
     rw (← f.same) (words-most _ _ (limits_of (accepted-of 0 log f.first f.accepted).limits))
 
-module _ {logs lengths : List ℕ} {sizes : Sizes} (t : Told logs lengths sizes) where
-  pub told-most : words_for sizes.badges sizes.ticks ≤ max_words
+module _ {logs lengths : List ℕ} {each : Size} (t : Told logs lengths each) where
+  pub told-most : words_for each.badges each.ticks ≤ max_words
   told-most = rw (← t.badges, ← t.ticks) (series-most (parts logs lengths) t.all t.judged)
 
   -- what filling asks
-  pub fillable : (words : ℕ) → sizes.alike ≡ true → length lengths * words_for sizes.badges sizes.ticks ≤ words → Fillable logs lengths sizes.badges sizes.ticks words
-  fillable words e h =
-      let s = size-of _ _ t.all (t.alike ∙ e) in
+  pub fillable : (words : ℕ) → length lengths * words_for each.badges each.ticks ≤ words → Fillable logs lengths each.badges each.ticks words
+  fillable words h =
+      let s = size-of _ _ t.all t.alike in
       record { all = t.all; accepted = t.judged; sized = λ rs m. record { badges = (s rs m).badges ∙ t.badges; ticks = (s rs m).ticks ∙ t.ticks }; room = h }
 
 -- What the call leaves: a log's refusal, 19, 8, or the days.
@@ -83,34 +80,41 @@ module _ (logs lengths : List ℕ) (room : ℕ) (ws : List ℕ) where
   unfolding read_series_of series_judged
   by-refusal number offset e = rw e
 
-  pub call-refused : (number offset : ℕ) → judge_logs 0 (parts logs lengths) ≡ refused number offset → read_series_of logs lengths room ws ≡ left (refused number offset) ws
-  call-refused number offset e = by-refusal number offset (series-refused (parts logs lengths) room (length ws) number offset e)
+  -- what refuses the logs, or their sizes
+  pub call-refused : (number offset : ℕ) → sizes_of (judge_logs 0 (parts logs lengths)) ≡ refused number offset → read_series_of logs lengths room ws ≡ left (refused number offset) ws
+  unfolding sizes_of and_then refuse_if judge_series
+  call-refused number offset e = by-refusal number offset (go (judge_logs 0 (parts logs lengths)) e)
+    where
+      alike : {A B : Type 0} (b : Bool) (x : A) (y : Outcome B) → refuse_if b 19 0 (success x) ≡ refused number offset → refuse_if b 19 0 y ≡ refused number offset
+      alike true x y f = refused-same f
+      alike false x y f = absurd (refused-success (sym f))
 
-  module _ {sizes : Sizes} (t : Told logs lengths sizes) where
+      go : (o : Outcome (List (List Record))) → sizes_of o ≡ refused number offset
+          → and_then o (λ all. refuse_if (isnt (have_size (badges_in all) (ticks_in all) all)) 19 0 (refuse_if (ltb room (day_size all) or ltb (length ws) (all_size all)) 8 0 (success all))) ≡ refused number offset
+      go (refused k p) f = refused-same f
+      go (success all) f = alike _ _ _ f
+
+  module _ {each : Size} (t : Told logs lengths each) where
     -- the words of a day, as the program counts them, and of all days
-    size : day_size t.all ≡ words_for sizes.badges sizes.ticks
+    size : day_size t.all ≡ words_for each.badges each.ticks
     size = ap₂ words_for t.badges t.ticks
 
-    every : all_size t.all ≡ length lengths * words_for sizes.badges sizes.ticks
+    every : all_size t.all ≡ length lengths * words_for each.badges each.ticks
     every = ap₂ (λ (m k : ℕ). m * k) t.counted size
 
-    pub call-different : sizes.alike ≡ false → read_series_of logs lengths room ws ≡ left (refused 19 0) ws
-    call-different e = by-refusal 19 0 (series-different (parts logs lengths) room (length ws) t.all t.judged (t.alike ∙ e))
+    pub call-little : room < words_for each.badges each.ticks → read_series_of logs lengths room ws ≡ left (refused 8 0) ws
+    call-little h = by-refusal 8 0 (series-little (parts logs lengths) room (length ws) t.all t.judged t.alike (omega (arith, size)))
 
-    module _ (e : sizes.alike ≡ true) where
-      pub call-little : room < words_for sizes.badges sizes.ticks → read_series_of logs lengths room ws ≡ left (refused 8 0) ws
-      call-little h = by-refusal 8 0 (series-little (parts logs lengths) room (length ws) t.all t.judged (t.alike ∙ e) (omega (arith, size)))
+    pub call-few : words_for each.badges each.ticks ≤ room → length ws < length lengths * words_for each.badges each.ticks → read_series_of logs lengths room ws ≡ left (refused 8 0) ws
+    call-few h k = by-refusal 8 0 (series-few (parts logs lengths) room (length ws) t.all t.judged t.alike (omega (arith, size)) (omega (arith, every)))
 
-      pub call-few : words_for sizes.badges sizes.ticks ≤ room → length ws < length lengths * words_for sizes.badges sizes.ticks → read_series_of logs lengths room ws ≡ left (refused 8 0) ws
-      call-few h k = by-refusal 8 0 (series-few (parts logs lengths) room (length ws) t.all t.judged (t.alike ∙ e) (omega (arith, size)) (omega (arith, every)))
-
-      pub call-read : (after : List ℕ) → words_for sizes.badges sizes.ticks ≤ room → length lengths * words_for sizes.badges sizes.ticks ≤ length ws
-          → Filled logs lengths sizes.badges sizes.ticks ws after → read_series_of logs lengths room ws ≡ left (success (record { badges = sizes.badges; ticks = sizes.ticks })) after
-      unfolding read_series_of series_judged common_size
-      call-read after h k f =
-          let p : judge_series (parts logs lengths) room (length ws) ≡ success t.all =
-          series-success (parts logs lengths) room (length ws) t.all t.judged (t.alike ∙ e) (omega (arith, size)) (omega (arith, every)) in
-          rw p (ap₂ left (ap₂ (λ (n T : ℕ). success (record { badges = n; ticks = T })) t.badges t.ticks) (ap (λ (m : ℕ). days_of t.all ++ drop m ws) every ∙ sym (f.days t.all t.judged)))
+    pub call-read : (after : List ℕ) → words_for each.badges each.ticks ≤ room → length lengths * words_for each.badges each.ticks ≤ length ws
+        → Filled logs lengths each.badges each.ticks ws after → read_series_of logs lengths room ws ≡ left (success each) after
+    unfolding read_series_of series_judged common_size
+    call-read after h k f =
+        let p : judge_series (parts logs lengths) room (length ws) ≡ success t.all =
+        series-success (parts logs lengths) room (length ws) t.all t.judged t.alike (omega (arith, size)) (omega (arith, every)) in
+        rw p (ap₂ left (ap₂ (λ (n T : ℕ). success (record { badges = n; ticks = T })) t.badges t.ticks) (ap (λ (m : ℕ). days_of t.all ++ drop m ws) every ∙ sym (f.days t.all t.judged)))
 
   -- What the answer tells: a refusal leaves every word, and after a success the days are there.
   pub answer-refused : (number offset : ℕ) → (read_series_of logs lengths room ws).answer ≡ refused number offset

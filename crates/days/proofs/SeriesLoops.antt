@@ -1,6 +1,5 @@
 -- Going through a series log by log: where each log lies, what judging knows at each of them, and what filling has filled.
 use mathlib.Core.Path.{◌≡◌, refl, sym, ap, ap₂, ◌∙◌, subst}
-use mathlib.Core.Bool.{true}
 use mathlib.Core.List.{List, [], ◌∷◌, ◌++◌, append_assoc, append-nil, Memᴰ}
 use Prim.Native.Nat.{ℕ, ◌+◌, ◌-◌, ◌*◌, ◌≤◌, ◌<◌, min}
 use native.Mathlib.Decide.{dec_le}
@@ -17,15 +16,16 @@ use Rattle.records.specs.Meaning.{badges_of, ticks_of, in_contact}
 use Rattle.records.proofs.Outcomes.{success-same, then-success}
 use Rattle.records.proofs.Shifting.{judged-at}
 use Rattle.days.specs.declared.sizes.Sizes.{Sizes}
+use Rattle.days.specs.declared.sizes.Sizes.TheVariants as z
 use Rattle.days.specs.Days.{day_of}
 use Rattle.days.specs.Filling.{Accepts}
 use Rattle.series.specs.Series.{parts, judge_logs, AllSized}
 use Rattle.days.specs.Series.{days_of}
-use Rattle.days.specs.SeriesSteps.{compared, sizes_in, sizes_of, Fillable, Filled}
+use Rattle.days.specs.SeriesSteps.{compared, common_of, sizes_in, sizes_of, Fillable, Filled}
 use Rattle.days.proofs.Days.{day-length, tick-fits}
 use Rattle.days.proofs.ReadCall.{Valued}
 use Rattle.series.proofs.SeriesJudged.{Fronted, fronted}
-use Rattle.days.proofs.SeriesSizes.{known-none, known_next}
+use Rattle.days.proofs.SeriesSizes.{known_next, common-in}
 
 -- as many elements as are there
 module _ (l : ℕ) (xs : List ℕ) where
@@ -121,8 +121,9 @@ pub record Judging (logs lengths : List ℕ) (sizes : Sizes) (at i : ℕ) : Type
   pub judged : judge_logs 0 (parts logs lengths) ≡ and_then (judge_logs at (parts (drop at logs) (drop i lengths))) (λ rest. success (all ++ rest))
   pub known : sizes ≡ sizes_in all
 
-pub judging-none : (logs lengths : List ℕ) → Judging logs lengths (record { badges = 0; ticks = 0; alike = true }) 0 0
-judging-none logs lengths = record { all = []; counted = refl; inside = omega arith; place = omega arith; judged = none-in-front _; known = sym known-none }
+pub judging-none : (logs lengths : List ℕ) → Judging logs lengths z.None 0 0
+unfolding sizes_in
+judging-none logs lengths = record { all = []; counted = refl; inside = omega arith; place = omega arith; judged = none-in-front _; known = refl }
 
 module _ {logs lengths : List ℕ} {sizes : Sizes} {at i : ℕ} (j : Judging logs lengths sizes at i) where
   module _ {end : ℕ} (p : Lies logs lengths at i end) where
@@ -132,14 +133,14 @@ module _ {logs lengths : List ℕ} {sizes : Sizes} {at i : ℕ} (j : Judging log
     judging-refused number offset e = j.judged ∙ rw (judge-here p, e)
 
     -- its records come behind those of the logs before
-    pub judging-next : {n T : ℕ} → Valued (judge_from (start at) (take (end - at) (drop at logs))) n T → Judging logs lengths (compared i sizes n T) end (i + 1)
+    pub judging-next : {n T : ℕ} → Valued (judge_from (start at) (take (end - at) (drop at logs))) n T → Judging logs lengths (compared sizes (record { badges = n; ticks = T })) end (i + 1)
     judging-next v = record {
       all = j.all ++ v.records ∷ [];
       counted = length-append j.all (v.records ∷ []) ∙ omega (arith, j.counted);
       inside = omega (arith, p.there);
       place = end-inside p;
       judged = j.judged ∙ ap (λ (o : Outcome (List (List Record))). and_then o (λ rest. success (j.all ++ rest))) (judge-here p ∙ then-success _ v.records _ v.accepted) ∙ one-in-front j.all v.records _;
-      known = rw (← j.counted, ← v.badges, ← v.ticks, j.known) (known_next j.all v.records);
+      known = rw (j.known, ← v.badges, ← v.ticks) (known_next j.all v.records _ refl);
     }
 
   -- after the last log all are accepted
@@ -147,14 +148,14 @@ module _ {logs lengths : List ℕ} {sizes : Sizes} {at i : ℕ} (j : Judging log
   unfolding judge_logs and_then
   judging-done h = j.judged ∙ rw (parts-end logs lengths at i h) (ap success (append-nil j.all))
 
--- what the logs come to: a refusal, or what is known of their sizes
+-- what the logs come to: a refusal, or what their sizes do
 pub sizes-refused : (o : Outcome (List (List Record))) (number offset : ℕ) → o ≡ refused number offset → sizes_of o ≡ refused number offset
 unfolding sizes_of and_then
 sizes-refused o number offset e = rw e
 
-pub sizes-accepted : (o : Outcome (List (List Record))) (all : List (List Record)) → o ≡ success all → sizes_of o ≡ success (sizes_in all)
+pub sizes-accepted : (o : Outcome (List (List Record))) (all : List (List Record)) → o ≡ success all → sizes_of o ≡ common_of (sizes_in all)
 unfolding sizes_of and_then
-sizes-accepted o all e = rw e
+sizes-accepted o all e = rw e (sym (common-in all))
 
 -- the words of a log's day, and of the days of logs of one size
 pub day-words : (n T : ℕ) (rs : List Record) → badges_of rs ≡ n → ticks_of rs ≡ T → length (day_of rs) ≡ words_for n T

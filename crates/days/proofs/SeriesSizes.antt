@@ -1,21 +1,20 @@
 -- Laws of the sizes that the program keeps of a series: those of the first log, and whether the others have them.
-use mathlib.Core.Path.{◌≡◌, refl}
-use mathlib.Core.Bool.{true, false}
+use mathlib.Core.Path.{◌≡◌, refl, sym, ap, ◌∙◌}
+use mathlib.Core.Bool.{Bool, true, false, ◌&&◌}
 use mathlib.Core.List.Memᴰ
 use mathlib.Core.List.{List, [], ◌∷◌, ◌++◌, Memᴰ}
 use mathlib.Core.Logic.{◌⊎◌, inl, inr}
-use Prim.Native.Nat.{ℕ, zero, suc}
-use native.Mathlib.Omega.{arith}
+use Prim.Native.Nat.{ℕ}
 use lib.Dec.{eqb}
-use lib.ListN.{length}
-use borrow.Author.Tests.{eq-eqb, ne_eqb}
-use Rattle.sets.specs.Bools.{◌and◌}
+use borrow.Author.Tests.{eq-eqb}
+use Rattle.sets.specs.Bools.{◌and◌, isnt}
 use Rattle.sets.proofs.Bools.{same_test, and_in, and_left, and_right}
 use Rattle.records.specs.declared.record.Record.{Record}
 use Rattle.records.specs.Meaning.{badges_of, ticks_of}
-use Rattle.days.specs.declared.sizes.Sizes.{Sizes}
-use Rattle.series.specs.Series.{badges_in, ticks_in, Sized, have_size}
-use Rattle.days.specs.SeriesSteps.{still_alike, compared, sizes_in}
+use Rattle.days.specs.declared.sizes.Sizes.TheVariants as z
+use Rattle.records.specs.Outcomes.{success, refuse_if}
+use Rattle.series.specs.Series.{badges_in, ticks_in, Sized, have_size, Size, common_size}
+use Rattle.days.specs.SeriesSteps.{compared, common_of, sizes_in}
 use Rattle.series.proofs.SeriesJudged.{size-of, size-in}
 
 -- one log more at the end
@@ -38,37 +37,43 @@ have-next n T all rs = same_test _ _ to back
     back e = let s = size-of n T _ e rs (last all) in
         and_in _ _ (and_in _ _ (eq-eqb _ _ s.badges) (eq-eqb _ _ s.ticks)) (size-in n T all (λ x i. size-of n T _ e x (Memᴰ.append_left (rs ∷ []) i)))
 
--- what is known of no log, and of one more
-pub known-none : sizes_in [] ≡ record { badges = 0; ticks = 0; alike = true }
-unfolding sizes_in badges_in ticks_in have_size
-known-none = refl
+both : (a b : Bool) → (a && b) ≡ (a and b)
+unfolding ◌and◌
+both true b = refl
+both false b = refl
 
-pub known_next : (all : List (List Record)) (rs : List Record) → compared (length all) (sizes_in all) (badges_of rs) (ticks_of rs) ≡ sizes_in (all ++ rs ∷ [])
-unfolding sizes_in badges_in ticks_in have_size compared still_alike ◌and◌
-known_next [] rs = rw (eq-eqb (badges_of rs) (badges_of rs) refl, eq-eqb (ticks_of rs) (ticks_of rs) refl)
-known_next (x ∷ all) rs = rw (have-next (badges_of x) (ticks_of x) (x ∷ all) rs)
-
--- comparing the first log with nothing, and any other with the first
-pub compared-first : (i : ℕ) (sizes : Sizes) (n T : ℕ) → i ≡ 0 → compared i sizes n T ≡ record { badges = n; ticks = T; alike = true }
+-- a first size, compared with another
+compared-same : (first size : Size) (b : Bool) → (eqb size.badges first.badges and eqb size.ticks first.ticks) ≡ b → compared (z.Same first) size ≡ elim b [ true ↦ z.Same first | false ↦ z.Different ]
 unfolding compared
-compared-first zero sizes n T e = refl
-compared-first (suc i) sizes n T e = absurd (omega arith)
+compared-same first size b e = ap (λ (c : Bool). elim c [ true ↦ z.Same first | false ↦ z.Different ]) (both _ _ ∙ e)
 
-pub compared-more : (i : ℕ) (sizes : Sizes) (n T : ℕ) → (i ≡ 0 → ⊥) → compared i sizes n T ≡ record { badges = sizes.badges; ticks = sizes.ticks; alike = still_alike sizes n T }
-unfolding compared
-compared-more zero sizes n T h = absurd (h refl)
-compared-more (suc i) sizes n T h = refl
+-- what is known of some logs, and of one more
+pub known_next : (all : List (List Record)) (rs : List Record) (size : Size) → size ≡ record { badges = badges_of rs; ticks = ticks_of rs } → compared (sizes_in all) size ≡ sizes_in (all ++ rs ∷ [])
+unfolding sizes_in compared have_size common_size badges_in ticks_in ◌and◌
+known_next [] rs size e = rw e (sym (kept (size-in (badges_of rs) (ticks_of rs) (rs ∷ []) (λ x i. alone x (Memᴰ.eq_of_singleton i)))))
+  where
+    alone : (x : List Record) → x ≡ rs → Sized (badges_of rs) (ticks_of rs) x
+    alone x f = rw f (record { badges = refl; ticks = refl })
 
--- whether one log more has the size of the first
-module _ (sizes : Sizes) (n T : ℕ) where
-  pub alike-badges : (n ≡ sizes.badges → ⊥) → still_alike sizes n T ≡ false
-  unfolding still_alike ◌and◌
-  alike-badges h = rw (ne_eqb n sizes.badges h)
+    kept : have_size (badges_of rs) (ticks_of rs) (rs ∷ []) ≡ true → sizes_in (rs ∷ []) ≡ z.Same (record { badges = badges_of rs; ticks = ticks_of rs })
+    kept f = rw (sizes_in, f)
+known_next (x ∷ all) rs size e =
+    rw (e, sizes_in, ← have-next (badges_of x) (ticks_of x) (x ∷ all) rs) (go (have_size (badges_of x) (ticks_of x) (x ∷ all)) (eqb (badges_of rs) (badges_of x) and eqb (ticks_of rs) (ticks_of x)) refl)
+  where
+    go : (b c : Bool) → (eqb (badges_of rs) (badges_of x) and eqb (ticks_of rs) (ticks_of x)) ≡ c
+        → compared (elim b [ true ↦ z.Same (common_size (x ∷ all)) | false ↦ z.Different ]) (record { badges = badges_of rs; ticks = ticks_of rs })
+        ≡ elim (c and b) [ true ↦ z.Same (common_size (x ∷ all)) | false ↦ z.Different ]
+    go true true f = compared-same (common_size (x ∷ all)) (record { badges = badges_of rs; ticks = ticks_of rs }) true f
+    go true false f = compared-same (common_size (x ∷ all)) (record { badges = badges_of rs; ticks = ticks_of rs }) false f
+    go false true f = refl
+    go false false f = refl
 
-  pub alike-ticks : n ≡ sizes.badges → (T ≡ sizes.ticks → ⊥) → still_alike sizes n T ≡ false
-  unfolding still_alike ◌and◌
-  alike-ticks e h = rw (eq-eqb n sizes.badges e, ne_eqb T sizes.ticks h)
-
-  pub alike-as-before : n ≡ sizes.badges → T ≡ sizes.ticks → still_alike sizes n T ≡ sizes.alike
-  unfolding still_alike ◌and◌
-  alike-as-before e f = rw (eq-eqb n sizes.badges e, eq-eqb T sizes.ticks f)
+-- the size that all of them have, or that they differ
+pub common-in : (all : List (List Record)) → common_of (sizes_in all) ≡ refuse_if (isnt (have_size (badges_in all) (ticks_in all) all)) 19 0 (success (common_size all))
+unfolding sizes_in have_size common_size badges_in ticks_in refuse_if isnt
+common-in [] = refl
+common-in (x ∷ all) = go (have_size (badges_of x) (ticks_of x) (x ∷ all))
+  where
+    go : (b : Bool) → common_of (elim b [ true ↦ z.Same (common_size (x ∷ all)) | false ↦ z.Different ]) ≡ refuse_if (isnt b) 19 0 (success (common_size (x ∷ all)))
+    go true = refl
+    go false = refl

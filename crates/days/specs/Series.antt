@@ -1,10 +1,10 @@
 -- Logs that lie end to end, each read into words of its own: what that answers, and what it leaves in the words.
-use Rattle.std.specs.Prelude.{List, [], ◌∷◌, ◌++◌, ℕ, length, drop}
+use Rattle.std.specs.Prelude.{List, [], ◌∷◌, ◌++◌, ℕ, length, drop, Result}
 use Rattle.records.specs.declared.record.Record.{Record}
-use Rattle.records.specs.Outcomes.{Outcome, refused, success, refused_by}
+use Rattle.records.specs.Outcomes.{Outcome, refused, success, outcome_of}
 use Rattle.series.specs.Series.{parts, all_size, judge_series, Size, common_size}
-use Rattle.days.specs.declared.several.Series.{Series}
-use Rattle.days.specs.declared.several.Series.TheVariants as s
+use Rattle.days.specs.declared.refusal.SeriesRefusal.{SeriesRefusal}
+use Rattle.days.specs.Refusals.{series_number, series_offset}
 use Rattle.days.specs.Days.{day_of}
 
 -- the days of logs, one after the other
@@ -24,7 +24,5 @@ series_judged (success all) ws = record { answer = success (common_size all); wo
 unfoldable pub read_series_of : List ℕ → List ℕ → ℕ → List ℕ → SeriesRead
 read_series_of logs lengths room ws = series_judged (judge_series (parts logs lengths) room (length ws)) ws
 
-abbrev pub series_outcome : Series → Outcome Size
-series_outcome (s.Read n T) = success (record { badges = n; ticks = T })
-series_outcome s.DifferentSizes = refused 19 0
-series_outcome (s.Refused x) = refused_by x
+abbrev pub series_outcome : Result Size SeriesRefusal → Outcome Size
+series_outcome r = outcome_of series_number series_offset r

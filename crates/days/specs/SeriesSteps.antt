@@ -1,33 +1,34 @@
 -- What the parts of reading a series leave. Private functions cite them; no promise rests on them.
-use Rattle.std.specs.Prelude.{Bool, true, List, ◌++◌, ◌≡◌, ℕ, zero, suc, ◌*◌, ◌≤◌, eqb, length, drop}
-use Rattle.sets.specs.Bools.{◌and◌}
+use Rattle.std.specs.Prelude.{true, false, ◌&&◌, List, [], ◌∷◌, ◌++◌, ◌≡◌, ℕ, ◌*◌, ◌≤◌, eqb, length, drop}
+use Rattle.sets.specs.Bools.{isnt}
 use Rattle.records.specs.declared.record.Record.{Record}
 use Rattle.records.specs.Limits.{words_for}
-use Rattle.records.specs.Outcomes.{Outcome, success, and_then, refused_by}
+use Rattle.records.specs.Outcomes.{Outcome, refused, success, refuse_if, and_then}
+use Rattle.records.specs.Meaning.{badges_of, ticks_of}
 use Rattle.days.specs.declared.sizes.Sizes.{Sizes}
-use Rattle.days.specs.declared.several.Judged.{Judged}
-use Rattle.days.specs.declared.several.Judged.TheVariants as j
-use Rattle.series.specs.Series.{parts, judge_logs, badges_in, ticks_in, AllSized, have_size}
+use Rattle.days.specs.declared.sizes.Sizes.TheVariants as z
+use Rattle.series.specs.Series.{parts, judge_logs, badges_in, ticks_in, AllSized, have_size, Size, common_size}
 use Rattle.days.specs.Series.{days_of}
 
--- the size of the first log, and whether the others have it, after one log more that follows so many
-unfoldable pub still_alike : Sizes → ℕ → ℕ → Bool
-still_alike sizes n T = eqb n sizes.badges and eqb T sizes.ticks and sizes.alike
+-- what is known of the sizes of logs after one log more
+unfoldable pub compared : Sizes → Size → Sizes
+compared z.None size = z.Same size
+compared (z.Same first) size = elim (eqb size.badges first.badges && eqb size.ticks first.ticks) [ true ↦ z.Same first | false ↦ z.Different ]
+compared z.Different size = z.Different
 
-unfoldable pub compared : ℕ → Sizes → ℕ → ℕ → Sizes
-compared zero sizes n T = record { badges = n; ticks = T; alike = true }
-compared (suc i) sizes n T = record { badges = sizes.badges; ticks = sizes.ticks; alike = still_alike sizes n T }
+-- the size that all have, and 19 where they differ
+abbrev pub common_of : Sizes → Outcome Size
+common_of z.None = success (record { badges = 0; ticks = 0 })
+common_of (z.Same size) = success size
+common_of z.Different = refused 19 0
 
--- what is known of accepted logs, and what judging logs comes to
+-- what is known of accepted logs, and what judging logs and their sizes comes to
 unfoldable pub sizes_in : List (List Record) → Sizes
-sizes_in all = record { badges = badges_in all; ticks = ticks_in all; alike = have_size (badges_in all) (ticks_in all) all }
+sizes_in [] = z.None
+sizes_in (rs ∷ rest) = elim (have_size (badges_of rs) (ticks_of rs) (rs ∷ rest)) [ true ↦ z.Same (common_size (rs ∷ rest)) | false ↦ z.Different ]
 
-unfoldable pub sizes_of : Outcome (List (List Record)) → Outcome Sizes
-sizes_of o = and_then o (λ all. success (sizes_in all))
-
-abbrev pub sizes_outcome : Judged → Outcome Sizes
-sizes_outcome (j.Accepted sizes) = success sizes
-sizes_outcome (j.Refused x) = refused_by x
+unfoldable pub sizes_of : Outcome (List (List Record)) → Outcome Size
+sizes_of o = and_then o (λ all. refuse_if (isnt (have_size (badges_in all) (ticks_in all) all)) 19 0 (success (common_size all)))
 
 -- logs that judging accepts, all of this size, and words enough for their days
 pub record Fillable (logs lengths : List ℕ) (n T words : ℕ) : Type 0 where

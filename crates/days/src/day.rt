@@ -9,41 +9,29 @@ ghost use Rattle.records.specs.Judging.{judge};
 ghost use Rattle.days.specs.Days.{day_of};
 ghost use Rattle.days.specs.Filling.{Accepts, Fitting, marked, Marks};
 
-use records::{Decoded, Record, decode, kind_of, size_of};
+use records::{Record, decode, kind_of, size_of};
 use sets::{SET_WORDS, WORD_BITS};
 
 // How many words are cleared at once. A compiler makes a call of a loop that clears words; for so few words the call takes several at once, and for many it
 // may take a step for each byte.
 const PART: usize = 128;
 
-// All words of a part are zero.
-fn clear_part(words: &mut [u64])
-    ensures { words.new ≡ replicate (length words.old) 0 }
-{
-    for i in 0..words.len() {
-        words[i] = 0;
-    }
-}
-
 // Where the part ends that starts at a word: after as many as are cleared at once, or where the words end.
 fn part_end(at: usize, words: usize) -> usize
     requires { at < words }
     ensures { (at < result) × (result ≤ words) }
 {
-    if words - at < PART {
-        return words;
-    }
-    at + PART
+    at + PART.min(words - at)
 }
 
-// All words are zero.
+// All words are zero. (A `for` over `chunks_mut` would not do: of the words that it lends, a proof knows only how many they are.)
 pub fn clear(words: &mut [u64])
     ensures { words.new ≡ replicate (length words.old) 0 }
 {
     let mut at: usize = 0;
     while at < words.len() {
         let end = part_end(at, words.len());
-        clear_part(&mut words[at..end]);
+        words[at..end].fill(0);
         at = end;
     }
 }
@@ -72,10 +60,10 @@ fn mark_contact(words: &mut [u64], n: usize, a: u8, b: u8, first: u8, last: u8)
     requires { Fitting n (length words.old) (Record.Contact a b first last) }
     ensures { Marks n (Record.Contact a b first last) words.old words.new }
 {
-    let start = first as usize;
-    let stop = last as usize + 1;
+    let start = usize::from(first);
+    let stop = usize::from(last) + 1;
     for t in start..stop {
-        mark_pair(words, n, t, a as usize, b as usize);
+        mark_pair(words, n, t, usize::from(a), usize::from(b));
     }
 }
 
@@ -84,15 +72,8 @@ fn mark_record(words: &mut [u64], n: usize, record: Record)
     requires { Fitting n (length words.old) «record» }
     ensures { Marks n «record» words.old words.new }
 {
-    match record {
-        Record::Contact { a, b, first, last } => {
-            mark_contact(words, n, a, b, first, last);
-        }
-        Record::Header {
-            badges: _,
-            ticks: _,
-        } => {}
-        Record::End { count: _ } => {}
+    if let Record::Contact { a, b, first, last } = record {
+        mark_contact(words, n, a, b, first, last);
     }
 }
 
@@ -104,10 +85,10 @@ pub(crate) fn fill(log: &[u8], badges: usize, ticks: usize, words: &mut [u64])
     clear(&mut words[..ticks * badges * SET_WORDS]);
     let mut at: usize = 0;
     while at < log.len() {
-        let Decoded::Whole(record) = decode(&log[at..]) else {
+        let Ok(record) = decode(&log[at..]) else {
             return;
         };
         mark_record(words, badges, record);
-        at = at + size_of(kind_of(record));
+        at += size_of(kind_of(record));
     }
 }

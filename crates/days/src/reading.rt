@@ -4,32 +4,20 @@ ghost use Rattle.records.specs.Verdicts.{verdict_outcome};
 ghost use Rattle.days.specs.Calls.{read_of};
 
 use crate::day::fill;
-use records::{Refusal, Verdict, judge};
+use records::{Accepted, Refusal, judge};
 use sets::SET_WORDS;
 
 // Reads a log into the words that are lent: the set at place t×n+u, in word 2(t×n+u) and the next, has badge v exactly when u and v are in contact
 // in tick t.
 // The whole log is judged first, then 8; a refused call changes no word, and words after the first 2×n×T are never touched.
-pub fn read(log: &[u8], words: &mut [u64]) -> Verdict
+pub fn read(log: &[u8], words: &mut [u64]) -> Result<Accepted, Refusal>
     ensures answer { verdict_outcome result ≡ (read_of log.now words.old).answer }
     ensures leaves { words.new ≡ (read_of log.now words.old).words }
 {
-    match judge(log) {
-        Verdict::Refused(refusal) => Verdict::Refused(refusal),
-        Verdict::Accepted {
-            badges,
-            ticks,
-            contacts,
-        } => {
-            if words.len() < ticks * badges * SET_WORDS {
-                return Verdict::Refused(Refusal::TooFewWords);
-            }
-            fill(log, badges, ticks, words);
-            Verdict::Accepted {
-                badges,
-                ticks,
-                contacts,
-            }
-        }
+    let accepted = judge(log)?;
+    if words.len() < accepted.ticks * accepted.badges * SET_WORDS {
+        return Err(Refusal::TooFewWords);
     }
+    fill(log, accepted.badges, accepted.ticks, words);
+    Ok(accepted)
 }

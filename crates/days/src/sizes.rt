@@ -1,42 +1,46 @@
 // Whether the logs of a series have the same n and T.
 ghost use Rattle.std.specs.Prelude.{◌≡◌};
-ghost use Rattle.days.specs.SeriesSteps.{still_alike, compared};
+ghost use Rattle.days.specs.Series.{series_outcome};
+ghost use Rattle.days.specs.SeriesSteps.{compared, common_of};
 
-// The size of the first log, and whether the others have it.
+use crate::refusal::SeriesRefusal;
+use series::Size;
+
+// What is known of the sizes of some logs: there is no log, all have one size, or they differ.
 #[derive(Clone, Copy)]
-pub(crate) struct Sizes {
-    pub(crate) badges: usize,
-    pub(crate) ticks: usize,
-    pub(crate) alike: bool,
+pub(crate) enum Sizes {
+    None,
+    Same(Size),
+    Different,
 }
 
-// Whether all logs have the size of the first, one more with these values among them.
-fn still_alike(sizes: Sizes, badges: usize, ticks: usize) -> bool
-    ensures { result ≡ still_alike sizes badges ticks }
+// What is known after one more log.
+pub(crate) fn compared(sizes: Sizes, size: Size) -> Sizes
+    ensures { result ≡ compared sizes size }
 {
-    if badges != sizes.badges {
-        return false;
+    match sizes {
+        Sizes::None => Sizes::Same(size),
+        Sizes::Same(first) => {
+            if size == first {
+                Sizes::Same(first)
+            } else {
+                Sizes::Different
+            }
+        }
+        Sizes::Different => Sizes::Different,
     }
-    if ticks != sizes.ticks {
-        return false;
-    }
-    sizes.alike
 }
 
-// The size of the first log, and whether the others have it, after one more that follows so many.
-pub(crate) fn compared(before: usize, sizes: Sizes, badges: usize, ticks: usize) -> Sizes
-    ensures { result ≡ compared before sizes badges ticks }
+// The size that all logs have; that of no log is 0.
+pub(crate) fn common(sizes: Sizes) -> Result<Size, SeriesRefusal>
+    ensures { series_outcome result ≡ common_of sizes }
 {
-    if before == 0 {
-        return Sizes {
-            badges,
-            ticks,
-            alike: true,
-        };
-    }
-    Sizes {
-        badges: sizes.badges,
-        ticks: sizes.ticks,
-        alike: still_alike(sizes, badges, ticks),
+    match sizes {
+        Sizes::None => Ok(Size {
+            badges: 0,
+            ticks: 0,
+        }),
+        Sizes::Same(size) => Ok(size),
+        Sizes::Different => Err(SeriesRefusal::DifferentSizes),
     }
 }

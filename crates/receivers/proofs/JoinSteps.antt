@@ -1,5 +1,5 @@
 -- The joining call step by step: what is known once the series is read, and that what counting and clearing leave is what the call shall leave.
-use mathlib.Core.Path.{◌≡◌, sym, ap, ap₂, ◌∙◌}
+use mathlib.Core.Path.{◌≡◌, refl, sym, ap, ap₂, ◌∙◌}
 use mathlib.Core.List.{List, ◌++◌}
 use Prim.Native.Nat.{ℕ, ◌*◌, ◌≤◌}
 use native.Mathlib.Omega.{arith}
@@ -14,6 +14,10 @@ use Rattle.days.specs.Series.{days_of, read_series_of}
 use Rattle.series.proofs.SeriesJudged.{series-passed, records-count, parts-count}
 use Rattle.days.proofs.SeriesLoops.{days-length}
 use Rattle.days.proofs.SeriesCall.{series-badges, answer-refused, answer-read}
+use Rattle.days.specs.declared.refusal.SeriesRefusal.{SeriesRefusal}
+use Rattle.days.specs.declared.refusal.SeriesRefusal.TheVariants as s
+use Rattle.days.specs.Refusals.{series_number, series_offset}
+use Rattle.receivers.specs.Refusals.{number_of, offset_of, of_series}
 use Rattle.receivers.specs.Joining.{Joinable, joined_day, Join, join_of}
 use Rattle.receivers.specs.Counting.{Combined}
 use Rattle.receivers.proofs.JoinCall.{joining, join-refused, join-success}
@@ -34,6 +38,11 @@ series-refuses logs lengths q words work number offset filled j e f =
     let a = answer-refused logs lengths (length words) work number offset e in
     join-refused logs lengths q words work j number offset a.0 ∙ ap (left (refused number offset) words) (sym (f ∙ a.1))
 
+-- and it says the same of itself to the call
+pub series-says : (x : SeriesRefusal) → ◌≡◌ {A = Outcome Size} (refused (number_of (of_series x)) (offset_of (of_series x))) (refused (series_number x) (series_offset x))
+series-says (s.Log x) = refl
+series-says s.DifferentSizes = refl
+
 -- The series is read: its days, of n badges and T ticks each, fill the first work words.
 pub record Ready (logs lengths : List ℕ) (q : ℕ) (words work : List ℕ) (n T : ℕ) (filled : List ℕ) : Type 0 where
   pub all : List (List Record)
@@ -48,17 +57,17 @@ pub record Ready (logs lengths : List ℕ) (q : ℕ) (words work : List ℕ) (n 
   pub enough : length lengths * words_for n T ≤ length work
   pub days : filled ≡ days_of all ++ drop (length lengths * words_for n T) work
 
-pub ready : {logs lengths : List ℕ} {q : ℕ} {words work : List ℕ} {n T : ℕ} (filled : List ℕ) → Joinable (length logs) lengths q
-    → (read_series_of logs lengths (length words) work).answer ≡ success (record { badges = n; ticks = T }) → filled ≡ (read_series_of logs lengths (length words) work).words → Ready logs lengths q words work n T filled
+pub ready : {logs lengths : List ℕ} {q : ℕ} {words work : List ℕ} {each : Size} (filled : List ℕ) → Joinable (length logs) lengths q
+    → (read_series_of logs lengths (length words) work).answer ≡ success each → filled ≡ (read_series_of logs lengths (length words) work).words → Ready logs lengths q words work each.badges each.ticks filled
 unfolding common_size
-ready {logs} {lengths} {q} {words} {work} {n} {T} filled j e f =
-    let a = answer-read logs lengths (length words) work (record { badges = n; ticks = T }) e in
+ready {logs} {lengths} {q} {words} {work} {each} filled j e f =
+    let a = answer-read logs lengths (length words) work each e in
     let p = series-passed (parts logs lengths) (length words) (length work) a.all a.passed in
-    let b : badges_in a.all ≡ n = ap (λ (s : Size). s.badges) a.sized in
-    let t : ticks_in a.all ≡ T = ap (λ (s : Size). s.ticks) a.sized in
+    let b : badges_in a.all ≡ each.badges = ap (λ (s : Size). s.badges) a.sized in
+    let t : ticks_in a.all ≡ each.ticks = ap (λ (s : Size). s.ticks) a.sized in
     let c : length a.all ≡ length lengths = records-count 0 (parts logs lengths) a.all p.judged ∙ parts-count logs lengths in
-    let size : day_size a.all ≡ words_for n T = ap₂ words_for b t in
-    let every : all_size a.all ≡ length lengths * words_for n T = ap₂ (λ (m k : ℕ). m * k) c size in
+    let size : day_size a.all ≡ words_for each.badges each.ticks = ap₂ words_for b t in
+    let every : all_size a.all ≡ length lengths * words_for each.badges each.ticks = ap₂ (λ (m k : ℕ). m * k) c size in
     record {
       all = a.all;
       tested = j;

@@ -1,12 +1,12 @@
 -- Which of the papers' outcomes each answer of the joining call is.
-use Rattle.std.specs.Prelude.{ℕ}
+use Rattle.std.specs.Prelude.{ℕ, Result}
 use Rattle.records.specs.Outcomes as log
-use Rattle.records.specs.Outcomes.{Outcome, refused, success}
+use Rattle.records.specs.Outcomes.{Outcome, outcome_of}
 use Rattle.series.specs.Series.{Size}
 use Rattle.receivers.specs.declared.refusal.Refusal.{Refusal}
 use Rattle.receivers.specs.declared.refusal.Refusal.TheVariants as r
-use Rattle.receivers.specs.declared.answer.Joined.{Joined}
-use Rattle.receivers.specs.declared.answer.Joined.TheVariants as j
+use Rattle.days.specs.declared.refusal.SeriesRefusal.{SeriesRefusal}
+use Rattle.days.specs.declared.refusal.SeriesRefusal.TheVariants as s
 
 -- the number of each case: the log part's own, 18 and 19
 abbrev pub number_of : Refusal → ℕ
@@ -20,9 +20,10 @@ offset_of (r.Log x) = log.offset_of x
 offset_of r.InvalidReceivers = 0
 offset_of r.DifferentShifts = 0
 
-abbrev pub refused_by : {A : Type 0} → Refusal → Outcome A
-refused_by x = refused (number_of x) (offset_of x)
+-- what a refusal of the series is to the call
+abbrev pub of_series : SeriesRefusal → Refusal
+of_series (s.Log x) = r.Log x
+of_series s.DifferentSizes = r.DifferentShifts
 
-abbrev pub joined_outcome : Joined → Outcome Size
-joined_outcome (j.Day n T) = success (record { badges = n; ticks = T })
-joined_outcome (j.Refused x) = refused_by x
+abbrev pub joined_outcome : Result Size Refusal → Outcome Size
+joined_outcome x = outcome_of number_of offset_of x

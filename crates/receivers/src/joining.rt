@@ -3,11 +3,10 @@ ghost use Rattle.std.specs.Prelude.{◌≡◌};
 ghost use Rattle.receivers.specs.Refusals.{joined_outcome};
 ghost use Rattle.receivers.specs.Joining.{join_of};
 
-use crate::answer::Joined;
 use crate::lengths::joinable;
 use crate::quorum::combine;
 use crate::refusal::Refusal;
-use days::{Series, clear, read_series};
+use days::{Size, clear, read_series};
 use sets::SET_WORDS;
 
 // Joins from 2 to 4 logs that lie end to end, as the lengths say, into the words that are lent: the set at place t×n+u has badge v exactly when at least a quorum
@@ -19,22 +18,17 @@ pub fn join(
     quorum: usize,
     words: &mut [u64],
     work: &mut [u64],
-) -> Joined
+) -> Result<Size, Refusal>
     ensures answer { joined_outcome result ≡ (join_of logs.now lengths.now quorum words.old work.old).answer }
     ensures leaves { words.new ≡ (join_of logs.now lengths.now quorum words.old work.old).words }
     ensures clears { work.new ≡ (join_of logs.now lengths.now quorum words.old work.old).work }
 {
     if !joinable(logs.len(), lengths, quorum) {
-        return Joined::Refused(Refusal::InvalidReceivers);
+        return Err(Refusal::InvalidReceivers);
     }
-    match read_series(logs, lengths, words.len(), work) {
-        Series::Refused(refusal) => Joined::Refused(Refusal::Log(refusal)),
-        Series::DifferentSizes => Joined::Refused(Refusal::DifferentShifts),
-        Series::Read { badges, ticks } => {
-            let size = ticks * badges * SET_WORDS;
-            combine(work, lengths.len(), size, quorum, words);
-            clear(&mut work[..lengths.len() * size]);
-            Joined::Day { badges, ticks }
-        }
-    }
+    let size = read_series(logs, lengths, words.len(), work)?;
+    let day = size.ticks * size.badges * SET_WORDS;
+    combine(work, lengths.len(), day, quorum, words);
+    clear(&mut work[..lengths.len() * day]);
+    Ok(size)
 }

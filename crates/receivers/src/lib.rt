@@ -2,12 +2,11 @@
 
 #![tactic(auto)]
 
-mod answer;
 mod joining;
 mod lengths;
 mod quorum;
 mod refusal;
 
-pub use answer::Joined;
+pub use days::Size;
 pub use joining::join;
 pub use refusal::Refusal;

@@ -1,8 +1,11 @@
 // Why the joining call refuses: the refusals of the log part, and its own.
 ghost use Rattle.std.specs.Prelude.{◌≡◌};
-ghost use Rattle.receivers.specs.Refusals.{number_of, offset_of};
+ghost use Rattle.receivers.specs.Refusals.{number_of, offset_of, of_series};
 
-#[derive(Clone, Copy)]
+use days::SeriesRefusal;
+use records::Reason;
+
+#[derive(Clone, Copy, Debug, PartialEq, Eq)]
 pub enum Refusal {
     // One that the log part gives: 1 to 8.
     Log(records::Refusal),
@@ -12,11 +15,23 @@ pub enum Refusal {
     DifferentShifts,
 }
 
-impl Refusal {
-    // The number of a refusal in the papers.
-    pub fn number(self) -> u8
-        ensures { result ≡ number_of self }
-    {
+impl From<SeriesRefusal> for Refusal {
+    ghost from_gives = { λ refusal result. result ≡ of_series refusal };
+
+    fn from(refusal: SeriesRefusal) -> Refusal {
+        match refusal {
+            SeriesRefusal::Log(log) => Refusal::Log(log),
+            SeriesRefusal::DifferentSizes => Refusal::DifferentShifts,
+        }
+    }
+}
+
+impl Reason for Refusal {
+    ghost number = { number_of };
+
+    ghost offset = { offset_of };
+
+    fn number(self) -> u8 {
         match self {
             Refusal::Log(refusal) => refusal.number(),
             Refusal::InvalidReceivers => 18,
@@ -24,10 +39,8 @@ impl Refusal {
         }
     }
 
-    // The byte offset that goes with it, from the start of the buffer.
-    pub fn offset(self) -> usize
-        ensures { result ≡ offset_of self }
-    {
+    // From the start of the buffer.
+    fn offset(self) -> usize {
         match self {
             Refusal::Log(refusal) => refusal.offset(),
             Refusal::InvalidReceivers => 0,

@@ -7,6 +7,7 @@ use Rattle.records.specs.Limits.{words_for}
 use Rattle.records.specs.Outcomes.{Outcome, success, refuse_if, and_then}
 use Rattle.records.specs.Judging.{start, judge_from}
 use Rattle.records.specs.Meaning.{badges_of, ticks_of}
+use Rattle.series.specs.declared.Size as declared
 
 -- "logs .. lie end to end in one buffer, with a lent list of their lengths"
 unfoldable pub parts : List ℕ → List ℕ → List (List ℕ)
@@ -59,9 +60,8 @@ judge_series logs room words =
     (success all)))
 
 -- n and T, which all logs have
-pub record Size : Type 0 where
-  pub badges : ℕ
-  pub ticks : ℕ
+abbrev pub Size : Type 0
+Size = declared.Size
 
 unfoldable pub common_size : List (List Record) → Size
 common_size logs = record { badges = badges_in logs; ticks = ticks_in logs }

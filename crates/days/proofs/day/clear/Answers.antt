@@ -31,7 +31,7 @@ pub loop-at-preserved : goal.loop-at-preserved
 loop-at-preserved c =
     let p = c.part_end-end.ensures in
     let lent = c.args.words.now in
-    let e = more c.loop-at.at c.part_end-end.result lent c.loop-at.words c.clear_part.new.words (omega (arith, p)) (omega (arith, p, c.loop-at.invariant.1)) c.loop-at.invariant.1 c.loop-at.invariant.2 c.clear_part.ensures in
+    let e = more c.loop-at.at c.part_end-end.result lent c.loop-at.words _ (omega (arith, p)) (omega (arith, p, c.loop-at.invariant.1)) c.loop-at.invariant.1 c.loop-at.invariant.2 (c.fill.ensures.after (λ y e. e)) in
     (omega (arith, p, c.loop-at.invariant.1), ap length e ∙ length-append (replicate c.part_end-end.result 0) _ ∙ omega (arith, length-replicate {A = ℕ} c.part_end-end.result 0, length-drop c.part_end-end.result lent, p, c.loop-at.invariant.1), e)
 
 pub returns : goal.returns

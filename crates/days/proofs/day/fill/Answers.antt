@@ -1,4 +1,5 @@
 -- `fill` meets its contract: at each turn the words hold the records before the place reached, and the bytes from there on are the others.
+use Rattle.std.proofs.Common.{Ok}
 use mathlib.Core.Path.{◌≡◌, refl, sym, ap, ◌∙◌, subst}
 use mathlib.Core.List.{List, ◌++◌}
 use Prim.Native.Nat.{ℕ, ◌+◌, ◌≤◌}
@@ -8,7 +9,6 @@ use lib.Seq.{length-take-le}
 use Rattle.sets.specs.Bytes.{Bytes}
 use Rattle.records.specs.Limits.{words_for}
 use Rattle.records.specs.declared.record.Record.{Record}
-use Rattle.records.specs.declared.record.Decoded.TheVariants as d
 use Rattle.records.specs.Records.{size_of, kind_of, decode}
 use Rattle.records.proofs.Records.{size-pos}
 use Rattle.records.proofs.Verdicts.{rest-is}
@@ -34,17 +34,17 @@ cleared c =
 finds : (c : goal.After-decode) → Found c.args.log.now c.args.badges c.args.ticks c.loop-at.at (drop (words_for c.args.badges c.args.ticks) (c.clear.new.words ++ drop (words_for c.args.badges c.args.ticks) c.args.words.now)) c.loop-at.words
 finds c = found _ _ _ _ _ _ c.loop-at.invariant.1 c.loop-at-test.true
 
-is_whole : (c : goal.After-decode) → c.decode.result ≡ d.Whole (finds c).r
+is_whole : (c : goal.After-decode) → c.decode.result ≡ Ok (finds c).r
 is_whole c = c.decode.ensures ∙ ap decode (rest-is c.args.log.now c.loop-at.at) ∙ (finds c).whole
 
-same-record : (c : goal.After-decode) (r : Record) → c.decode.result ≡ d.Whole r → (finds c).r ≡ r
+same-record : (c : goal.After-decode) (r : Record) → c.decode.result ≡ Ok r → (finds c).r ≡ r
 same-record c r e = whole_part (sym (is_whole c) ∙ e)
 
 -- the size that is added is the record's, and it fits
-size : (c : goal.After-decode) (r : Record) (k : ℕ) → c.decode.result ≡ d.Whole r → k ≡ size_of (kind_of r) → k ≡ size_of (kind_of (finds c).r)
+size : (c : goal.After-decode) (r : Record) (k : ℕ) → c.decode.result ≡ Ok r → k ≡ size_of (kind_of r) → k ≡ size_of (kind_of (finds c).r)
 size c r k e f = f ∙ ap (λ (x : Record). size_of (kind_of x)) (sym (same-record c r e))
 
-fits : (c : goal.After-decode) (r : Record) (k : ℕ) → c.decode.result ≡ d.Whole r → k ≡ size_of (kind_of r) → c.loop-at.at + k ≤ length c.args.log.now
+fits : (c : goal.After-decode) (r : Record) (k : ℕ) → c.decode.result ≡ Ok r → k ≡ size_of (kind_of r) → c.loop-at.at + k ≤ length c.args.log.now
 fits c r k e f = rw (size c r k e f) (finds c).fits
 
 pub slice_bounds-clear-end-2 : goal.slice_bounds-clear-end-2
@@ -54,30 +54,30 @@ pub loop-at-init : goal.loop-at-init
 loop-at-init c = (refl, filling-start _ _ _ _ _ (bytes (goal.at.loop-at-init c).After-shared_slice_known-1) c.requires.0 (cleared (goal.at.loop-at-init c).After-clear))
 
 pub returns-in_default : goal.returns-in_default
-returns-in_default c = absurd (c.in_default.not-Whole _ (is_whole (goal.at.returns-in_default c).After-decode))
+returns-in_default c = absurd (c.in_default.not-Ok _ (is_whole (goal.at.returns-in_default c).After-decode))
 
 pub mark_record-requires : goal.mark_record-requires
 mark_record-requires c =
     let p = c.requires in
     let at = (goal.at.mark_record-requires c).After-decode in
-    fitting p.0 (omega arith) (subst (Admissible _ _) (same-record at _ c.in-Whole.is) (finds at).admissible)
+    fitting p.0 (omega arith) (subst (Admissible _ _) (same-record at _ c.in-Ok.is) (finds at).admissible)
 
 pub overflow_add-at : goal.overflow_add-at
 overflow_add-at c =
     let at = (goal.at.overflow_add-at c).After-decode in
-    omega (arith, fits at _ _ c.in-Whole.is (c.size_of-at.ensures ∙ ap size_of c.kind_of.ensures))
+    omega (arith, fits at _ _ c.in-Ok.is (c.size_of-at.ensures ∙ ap size_of c.kind_of.ensures))
 
 pub loop-at-smaller : goal.loop-at-smaller
 loop-at-smaller c =
     let at = (goal.at.loop-at-smaller c).After-decode in
     let e = c.size_of-at.ensures ∙ ap size_of c.kind_of.ensures in
-    omega (arith, fits at _ _ c.in-Whole.is e, size at _ _ c.in-Whole.is e, size-pos (kind_of (finds at).r))
+    omega (arith, fits at _ _ c.in-Ok.is e, size at _ _ c.in-Ok.is e, size-pos (kind_of (finds at).r))
 
 pub loop-at-preserved : goal.loop-at-preserved
 loop-at-preserved c =
     let at = (goal.at.loop-at-preserved c).After-decode in
     let e = c.size_of-at.ensures ∙ ap size_of c.kind_of.ensures in
-    (omega arith, rw (size at _ _ c.in-Whole.is e) ((finds at).next _ (rw (same-record at _ c.in-Whole.is) c.mark_record.ensures)))
+    (omega arith, rw (size at _ _ c.in-Ok.is e) ((finds at).next _ (rw (same-record at _ c.in-Ok.is) c.mark_record.ensures)))
 
 pub returns : goal.returns
 returns c = λ rs e. filling-done _ _ _ _ _ _ c.requires.0 c.loop-at.invariant.1 c.loop-at-test.false rs e ∙ ap (λ (x : List ℕ). day_of rs ++ x) (cleared-rest (words_for c.args.badges c.args.ticks) _ _ (cleared (goal.at.returns c).After-clear))

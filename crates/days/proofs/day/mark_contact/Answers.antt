@@ -5,22 +5,23 @@ use Rattle.days.proofs.Marking.{marking-none, marking-more, marking-done, pair_f
 use Rattle.days.proofs.day.mark_contact.Goals as goal
 
 pub loop-t-init : goal.loop-t-init
-loop-t-init c = let a = c.args in marking-none a.n a.a a.b a.first a.last a.words.now c.requires
+loop-t-init c = let a = c.args in rw c.from-start.ensures (marking-none a.n a.a a.b a.first a.last a.words.now c.requires)
 
 pub mark_pair-requires : goal.mark_pair-requires
 mark_pair-requires c =
     let a = c.args in
     let i = c.loop-t in
-    pair_fits a.n (length i.words) a.a a.b a.first a.last i.t (rw i.invariant.long c.requires) c.loop-t-test.true
+    rw (c.from.ensures, c.from-in-loop-t.ensures)
+    (pair_fits a.n (length i.words) a.a a.b a.first a.last i.t (rw i.invariant.long c.requires) (omega arith))
 
 pub loop-t-preserved : goal.loop-t-preserved
 loop-t-preserved c =
     let a = c.args in
     let i = c.loop-t in
-    marking-more a.n a.a a.b a.first a.last a.words.now i.t i.words _ c.loop-t-test.true i.invariant c.mark_pair.ensures
+    marking-more a.n a.a a.b a.first a.last a.words.now i.t i.words _ (omega arith) i.invariant (rw (c.from.ensures, c.from-in-loop-t.ensures) at c.mark_pair.ensures)
 
 pub returns : goal.returns
 returns c =
     let a = c.args in
     let i = c.loop-t in
-    marking-done a.n a.a a.b a.first a.last a.words.now i.t i.words (omega (arith, c.loop-t-test.false)) i.invariant
+    marking-done a.n a.a a.b a.first a.last a.words.now i.t i.words (omega arith) i.invariant

@@ -1,7 +1,10 @@
 -- mark_record meets its contract: a contact by mark_contact, and any other record because it covers nothing.
-use mathlib.Core.Path.{sym, ap, subst}
+use mathlib.Core.Path.{◌≡◌, refl, sym, subst}
+use mathlib.Core.Bool.{false}
+use Prim.Native.Nat.{ℕ}
 use lib.ListN.{length}
 use Rattle.records.specs.declared.record.Record.{Record}
+use Rattle.records.specs.declared.record.Record.TheVariants.{Header, Contact, End}
 use Rattle.records.specs.Meaning.{covers}
 use Rattle.days.specs.Filling.{Fitting, Marks}
 use Rattle.days.proofs.Marking.{marks-none}
@@ -17,10 +20,12 @@ returns-in-Contact c =
     subst (λ (r : Record). Marks a.n r a.words.now c.mark_contact.new.words) (sym c.in-Contact.is)
     c.mark_contact.ensures
 
-pub returns-in-Header : goal.returns-in-Header
+-- a record that is no contact covers nothing
+covers-none : (r : Record) (t u v : ℕ) → ((a b first last : ℕ) → r ≡ Contact a b first last → ⊥) → covers r t u v ≡ false
 unfolding covers
-returns-in-Header c = let a = c.args in marks-none a.n a.«record» a.words.now (λ t u v. ap (λ (r : Record). covers r t u v) c.in-Header.is)
+covers-none (Header n T) t u v h = refl
+covers-none (Contact a b first last) t u v h = absurd (h a b first last refl)
+covers-none (End count) t u v h = refl
 
-pub returns-in-End : goal.returns-in-End
-unfolding covers
-returns-in-End c = let a = c.args in marks-none a.n a.«record» a.words.now (λ t u v. ap (λ (r : Record). covers r t u v) c.in-End.is)
+pub returns-in_default : goal.returns-in_default
+returns-in_default c = let a = c.args in marks-none a.n a.«record» a.words.now (λ t u v. covers-none _ t u v c.in_default.not-Contact)
