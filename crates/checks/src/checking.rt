@@ -13,13 +13,6 @@ use crate::comparing::{change_at, changes};
 use records::{Refusal, within_limits};
 use sets::{BadgeSet, Ones, ROW_WORDS, SET_WORDS, WORD_BITS};
 
-// Whether words are those of a day of n badges and T ticks.
-#[derive(Clone, Copy)]
-pub enum Checked {
-    Day,
-    Refused(Refusal),
-}
-
 // Changes the badges of a word, as word i of a set, in the row of v: puts in those that are not there, and takes out those that are.
 fn toggle(known: &mut [u64], v: usize, i: usize, word: u64)
     requires { (v < places known.old) × (i < set_words) }
@@ -107,18 +100,18 @@ fn is_day(words: &[u64], n: usize, ticks: usize) -> bool
     good
 }
 
-// The words, judged by 10, 8 and 11 in that order. Words after the first 2×n×T are not read.
-pub fn check_words(words: &[u64], badges: usize, ticks: usize) -> Checked
+// Whether the words are a day of n badges and T ticks, judged by 10, 8 and 11 in that order. Words after the first 2×n×T are not read.
+pub fn check_words(words: &[u64], badges: usize, ticks: usize) -> Result<(), Refusal>
     ensures { checked_outcome result ≡ check_of badges ticks words.now }
 {
     if !within_limits(badges, ticks) {
-        return Checked::Refused(Refusal::SizeOutOfLimits);
+        return Err(Refusal::SizeOutOfLimits);
     }
     if words.len() < ticks * badges * SET_WORDS {
-        return Checked::Refused(Refusal::TooFewWords);
+        return Err(Refusal::TooFewWords);
     }
     if !is_day(words, badges, ticks) {
-        return Checked::Refused(Refusal::NotADay);
+        return Err(Refusal::NotADay);
     }
-    Checked::Day
+    Ok(())
 }

@@ -8,5 +8,5 @@ mod checking;
 mod comparing;
 mod rows;
 
-pub use checking::{Checked, check_words};
+pub use checking::check_words;
 pub use rows::{copy_tick, united};
