@@ -10,6 +10,7 @@ ghost use Rattle.days.specs.Days.{day_of};
 ghost use Rattle.days.specs.Filling.{Accepts, Fitting, marked, Marks};
 
 use records::{Record, decode, kind_of, size_of};
+use series::Size;
 use sets::{SET_WORDS, WORD_BITS};
 
 // How many words are cleared at once. A compiler makes a call of a loop that clears words; for so few words the call takes several at once, and for many it
@@ -77,18 +78,18 @@ fn mark_record(words: &mut [u64], n: usize, record: Record)
     }
 }
 
-// Sets the first 2×n×T words to the day of an accepted log.
-pub(crate) fn fill(log: &[u8], badges: usize, ticks: usize, words: &mut [u64])
-    requires { Accepts log.now badges ticks × (words_for badges ticks ≤ length words.old) }
-    ensures { (rs : List Record) → judge log.now ≡ success rs → words.new ≡ day_of rs ++ drop (words_for badges ticks) words.old }
+// Sets the first 2×n×T words to the day of an accepted log. (Records have different sizes, so a place goes through the bytes, and no `for` does.)
+pub(crate) fn fill(log: &[u8], size: Size, words: &mut [u64])
+    requires { Accepts log.now size.badges size.ticks × (words_for size.badges size.ticks ≤ length words.old) }
+    ensures { (rs : List Record) → judge log.now ≡ success rs → words.new ≡ day_of rs ++ drop (words_for size.badges size.ticks) words.old }
 {
-    clear(&mut words[..ticks * badges * SET_WORDS]);
+    clear(&mut words[..size.ticks * size.badges * SET_WORDS]);
     let mut at: usize = 0;
     while at < log.len() {
         let Ok(record) = decode(&log[at..]) else {
             return;
         };
-        mark_record(words, badges, record);
+        mark_record(words, size.badges, record);
         at += size_of(kind_of(record));
     }
 }

@@ -5,6 +5,7 @@ ghost use Rattle.days.specs.Calls.{read_of};
 
 use crate::day::fill;
 use records::{Accepted, Refusal, judge};
+use series::Size;
 use sets::SET_WORDS;
 
 // Reads a log into the words that are lent: the set at place t×n+u, in word 2(t×n+u) and the next, has badge v exactly when u and v are in contact
@@ -15,9 +16,10 @@ pub fn read(log: &[u8], words: &mut [u64]) -> Result<Accepted, Refusal>
     ensures leaves { words.new ≡ (read_of log.now words.old).words }
 {
     let accepted = judge(log)?;
-    if words.len() < accepted.ticks * accepted.badges * SET_WORDS {
+    let size = Size::from(accepted);
+    if words.len() < size.ticks * size.badges * SET_WORDS {
         return Err(Refusal::TooFewWords);
     }
-    fill(log, accepted.badges, accepted.ticks, words);
+    fill(log, size, words);
     Ok(accepted)
 }

@@ -28,11 +28,7 @@ fn judge_all(logs: &[u8], lengths: &[usize]) -> Result<Size, SeriesRefusal>
     for &length in lengths {
         let end = end_of(at, length, logs.len());
         let accepted = judge_from(&logs[..end], at)?;
-        let size = Size {
-            badges: accepted.badges,
-            ticks: accepted.ticks,
-        };
-        sizes = compared(sizes, size);
+        sizes = compared(sizes, Size::from(accepted));
         at = end;
     }
     common(sizes)
@@ -47,7 +43,7 @@ fn fill_all(logs: &[u8], lengths: &[usize], size: Size, words: &mut [u64])
     let mut from: usize = 0;
     for &length in lengths {
         let end = end_of(at, length, logs.len());
-        fill(&logs[at..end], size.badges, size.ticks, &mut words[from..]);
+        fill(&logs[at..end], size, &mut words[from..]);
         at = end;
         from += size.ticks * size.badges * SET_WORDS;
     }

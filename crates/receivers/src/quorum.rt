@@ -1,6 +1,6 @@
 // The badges that at least a quorum of logs' days have. The days are parts of the work words, of one size and one after the other. They are sorted bit by
 // bit, ones first, by insertion; part j then has the badges that at least j + 1 of them had. Each loop takes whole parts, so that a compiler can take
-// several words at once.
+// several words at once. (The words are one slice with numbers beside it: a struct of parts would have to lend two of them at once, and is no plainer.)
 ghost use Rattle.std.specs.Prelude.{List, ◌≡◌, ℕ, ◌+◌, ◌*◌, ◌≤◌, length, drop};
 ghost use Rattle.receivers.specs.Counting.{Exchanged, Sorted, Combined};
 

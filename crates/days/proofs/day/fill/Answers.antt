@@ -24,14 +24,14 @@ bytes c = record { at = λ i l. omega (arith, c.shared_slice_known-1.given i) }
 
 -- the words before the loop: the first 2×n×T are zero
 cleared : (c : goal.After-clear) → let a = c.args in
-    c.clear.new.words ++ drop (words_for a.badges a.ticks) a.words.now ≡ replicate (words_for a.badges a.ticks) 0 ++ drop (words_for a.badges a.ticks) a.words.now
+    c.clear.new.words ++ drop (words_for a.size.badges a.size.ticks) a.words.now ≡ replicate (words_for a.size.badges a.size.ticks) 0 ++ drop (words_for a.size.badges a.size.ticks) a.words.now
 cleared c =
     let a = c.args in
-    ap (λ (x : List ℕ). x ++ drop (words_for a.badges a.ticks) a.words.now)
-    (c.clear.ensures ∙ ap (λ (k : ℕ). replicate k 0) (length-take-le (words_for a.badges a.ticks) a.words.now c.requires.1))
+    ap (λ (x : List ℕ). x ++ drop (words_for a.size.badges a.size.ticks) a.words.now)
+    (c.clear.ensures ∙ ap (λ (k : ℕ). replicate k 0) (length-take-le (words_for a.size.badges a.size.ticks) a.words.now c.requires.1))
 
 -- the record that a turn finds
-finds : (c : goal.After-decode) → Found c.args.log.now c.args.badges c.args.ticks c.loop-at.at (drop (words_for c.args.badges c.args.ticks) (c.clear.new.words ++ drop (words_for c.args.badges c.args.ticks) c.args.words.now)) c.loop-at.words
+finds : (c : goal.After-decode) → Found c.args.log.now c.args.size.badges c.args.size.ticks c.loop-at.at (drop (words_for c.args.size.badges c.args.size.ticks) (c.clear.new.words ++ drop (words_for c.args.size.badges c.args.size.ticks) c.args.words.now)) c.loop-at.words
 finds c = found _ _ _ _ _ _ c.loop-at.invariant.1 c.loop-at-test.true
 
 is_whole : (c : goal.After-decode) → c.decode.result ≡ Ok (finds c).r
@@ -80,4 +80,4 @@ loop-at-preserved c =
     (omega arith, rw (size at _ _ c.in-Ok.is e) ((finds at).next _ (rw (same-record at _ c.in-Ok.is) c.mark_record.ensures)))
 
 pub returns : goal.returns
-returns c = λ rs e. filling-done _ _ _ _ _ _ c.requires.0 c.loop-at.invariant.1 c.loop-at-test.false rs e ∙ ap (λ (x : List ℕ). day_of rs ++ x) (cleared-rest (words_for c.args.badges c.args.ticks) _ _ (cleared (goal.at.returns c).After-clear))
+returns c = λ rs e. filling-done _ _ _ _ _ _ c.requires.0 c.loop-at.invariant.1 c.loop-at-test.false rs e ∙ ap (λ (x : List ℕ). day_of rs ++ x) (cleared-rest (words_for c.args.size.badges c.args.size.ticks) _ _ (cleared (goal.at.returns c).After-clear))

@@ -37,7 +37,7 @@ returns-in_err-accepted c =
 pub loop-length-preserved : goal.loop-length-preserved
 loop-length-preserved c =
     let v = valued _ _ _ _ (sym (told (goal.at.loop-length-preserved c).After-judge_from) ∙ ap verdict_outcome c.in_ok-accepted.was) in
-    rw c.compared-sizes.ensures (judging-next c.loop-length.invariant (lies (goal.at.loop-length-preserved c).After-end_of-end) v)
+    rw (c.compared-sizes.ensures, c.from.ensures) (judging-next c.loop-length.invariant (lies (goal.at.loop-length-preserved c).After-end_of-end) v)
 
 pub returns : goal.returns
 returns c = let j = c.loop-length.invariant in c.common.ensures ∙ ap common_of j.known ∙ sym (sizes-accepted _ j.all (judging-done j c.loop-length-test.false))
