@@ -1,15 +1,17 @@
 -- Laws of rows in the words of an array: the sets of one tick over rows, and the union of rows.
 use mathlib.Core.Path.{◌≡◌, refl, sym, ap, ◌∙◌}
-use mathlib.Core.List.{List}
+use mathlib.Core.List.{List, ◌++◌}
 use mathlib.Core.Logic.{◌⊎◌, inl, inr, by_cases}
-use Prim.Native.Nat.{ℕ, zero, suc, ◌+◌, ◌*◌, ◌/◌, ◌≤◌, ◌<◌, zero-le}
+use Prim.Native.Nat.{ℕ, zero, suc, ◌+◌, ◌-◌, ◌*◌, ◌/◌, ◌≤◌, ◌<◌, zero-le, min}
 use native.Mathlib.Decide.{dec_lt}
 use native.Mathlib.Omega.{arith}
-use lib.ListN.{length, get_or}
+use lib.ListN.{length, get_or, take, drop, length-append, length-drop, get_or-append}
+use Rattle.std.proofs.lemmas.List.{get_or-take, get_or-drop, get_or-append_right}
+use lib.Seq.{length-take-le}
 use borrow.Author.Tests.{lt-ltb, le-ltb}
 use Rattle.sets.specs.Sets.{In, full}
 use Rattle.sets.specs.Members.{capacity, row_words}
-use Rattle.sets.specs.Tables.{tabulate, piecewise}
+use Rattle.sets.specs.Tables.{tabulate}
 use Rattle.sets.specs.Words.{word_bits, set_words, Words, places, set_at, words_of}
 use Rattle.sets.proofs.Sets.{not-in-none, in-union-left, in-union-right, of-union, in-full, of-full, ext}
 use Rattle.sets.proofs.Tables.{tabulate-length, tabulate-at, tabulate-same, piecewise-in, piecewise-out}
@@ -29,20 +31,40 @@ over-fits tick rows v w = words-fit (tick_over tick rows) (λ i l.
 
 -- Words copied over the words of rows, as many as make the tick's sets, hold the tick's sets over the rows.
 module _ (tick rows : List ℕ) (v : Words tick) (w : Words rows) (e : length rows ≡ row_words) where
+  -- as many words as make the tick's sets and have room
+  count : ℕ
+  count = set_words * min capacity (places tick)
+
+  inside : count ≤ length tick
+  unfolding count
+  inside = omega arith
+
+  among : count ≤ row_words
+  unfolding count
+  among = omega arith
+
   copied : List ℕ
-  copied = tabulate row_words (piecewise (full (places tick * set_words)) (λ i. get_or tick i 0) (λ i. get_or rows i 0))
+  copied = take count tick ++ drop count rows
+
+  front : length (take count tick) ≡ count
+  front = length-take-le count tick inside
 
   here : (i : ℕ) → i < row_words → i < places tick * set_words → get_or copied i 0 ≡ get_or tick i 0
-  unfolding copied
-  here i k p = tabulate-at row_words _ i k ∙ piecewise-in (full (places tick * set_words)) _ _ i (in-full _ i p)
+  unfolding copied count
+  here i k p =
+      let m : i < count = omega arith in
+      get_or-append (take count tick) (drop count rows) 0 i (rw front m) ∙ get_or-take count tick i 0 m
 
   there : (i : ℕ) → i < row_words → (i < places tick * set_words → ⊥) → get_or copied i 0 ≡ get_or rows i 0
-  unfolding copied
-  there i k p = tabulate-at row_words _ i k ∙ piecewise-out (full (places tick * set_words)) _ _ i (λ j. p (of-full _ i j))
+  unfolding copied count
+  there i k p =
+      let m : count ≤ i = omega arith in
+      let f : count + (i - count) ≡ i = omega arith in
+      get_or-append_right (take count tick) (drop count rows) count i 0 front m ∙ get_or-drop count rows (i - count) 0 ∙ ap (λ (x : ℕ). get_or rows x 0) f
 
   size : length copied ≡ row_words
   unfolding copied
-  size = tabulate-length row_words _
+  size = length-append (take count tick) (drop count rows) ∙ omega (arith, front, length-drop count rows, among)
 
   fit : Words copied
   fit = record {
@@ -63,9 +85,9 @@ module _ (tick rows : List ℕ) (v : Words tick) (w : Words rows) (e : length ro
       (λ p. set-at-same copied rows i i (omega (arith, size)) (omega arith) (λ x m. there (i * set_words + x) (omega arith) (λ q. p (omega arith)))
       ∙ sym (set-at-sets (tick_over tick rows) i (rw tabulate-length l) ∙ tabulate-at capacity _ i l ∙ piecewise-out (full (places tick)) _ _ i (λ j. p (of-full _ i j))))
 
-  pub over-copied : {out : List ℕ} → out ≡ tabulate row_words (piecewise (full (places tick * set_words)) (λ i. get_or tick i 0) (λ i. get_or rows i 0)) → out ≡ words_of (tick_over tick rows)
-  unfolding copied
-  over-copied o = rw o (sets_same capacity copied (words_of (tick_over tick rows)) size long fit (over-fits tick rows v w) same)
+  pub over-copied : {k : ℕ} → k ≡ min capacity (places tick) → take (set_words * k) tick ++ drop (set_words * k) rows ≡ words_of (tick_over tick rows)
+  unfolding copied count
+  over-copied e = rw e (sets_same capacity copied (words_of (tick_over tick rows)) size long fit (over-fits tick rows v w) same)
 
 -- the set of the tick at its places
 pub over-tick : (tick rows : List ℕ) (u : ℕ) → u < capacity → u < places tick → set_at (words_of (tick_over tick rows)) u ≡ set_at tick u

@@ -15,29 +15,16 @@ pub(crate) fn change_at(tick: &[u64], before: &[u64], u: usize) -> BadgeSet
     BadgeSet::from_words(tick[at] ^ before[at], tick[at + 1] ^ before[at + 1])
 }
 
-// What changes in two rows, in four and in eight, from the row of u on.
-fn two_changes(tick: &[u64], before: &[u64], u: usize) -> BadgeSet
-    requires { (u + 2 ≤ places tick.now) × (u + 2 ≤ places before.now) }
-    ensures { UnionOver (change_at tick.now before.now) u (u + 2) (members result) }
+// What changes in N rows, from the row of u on. The number is known to the compiler, which lays the rows out one after the other, without a loop.
+fn some_changes<const N: usize>(tick: &[u64], before: &[u64], u: usize) -> BadgeSet
+    requires { (u + N ≤ places tick.now) × (u + N ≤ places before.now) }
+    ensures { UnionOver (change_at tick.now before.now) u (u + N) (members result) }
 {
-    let first = change_at(tick, before, u);
-    first.union(change_at(tick, before, u + 1))
-}
-
-fn four_changes(tick: &[u64], before: &[u64], u: usize) -> BadgeSet
-    requires { (u + 4 ≤ places tick.now) × (u + 4 ≤ places before.now) }
-    ensures { UnionOver (change_at tick.now before.now) u (u + 4) (members result) }
-{
-    let first = two_changes(tick, before, u);
-    first.union(two_changes(tick, before, u + 2))
-}
-
-fn eight_changes(tick: &[u64], before: &[u64], u: usize) -> BadgeSet
-    requires { (u + 8 ≤ places tick.now) × (u + 8 ≤ places before.now) }
-    ensures { UnionOver (change_at tick.now before.now) u (u + 8) (members result) }
-{
-    let first = four_changes(tick, before, u);
-    first.union(four_changes(tick, before, u + 4))
+    let mut all = BadgeSet::EMPTY;
+    for w in u..u + N {
+        all = all.union(change_at(tick, before, w));
+    }
+    all
 }
 
 // What changes in so many times eight rows, eight in a turn. The first eight come before the loop: rows in an array are compared from its start on then,
@@ -49,10 +36,9 @@ fn changes_by_eight(tick: &[u64], before: &[u64], eights: usize) -> BadgeSet
     if eights == 0 {
         return BadgeSet::EMPTY;
     }
-    let mut all = eight_changes(tick, before, 0);
+    let mut all = some_changes::<8>(tick, before, 0);
     for i in 1..eights {
-        let next = all.union(eight_changes(tick, before, 8 * i));
-        all = next;
+        all = all.union(some_changes::<8>(tick, before, 8 * i));
     }
     all
 }
@@ -65,8 +51,7 @@ pub(crate) fn changes(tick: &[u64], before: &[u64], n: usize) -> BadgeSet
     let eights = n / 8;
     let mut all = changes_by_eight(tick, before, eights);
     for u in 8 * eights..n {
-        let next = all.union(change_at(tick, before, u));
-        all = next;
+        all = all.union(change_at(tick, before, u));
     }
     all
 }

@@ -1,36 +1,18 @@
 // Rows in an array, a set for each badge that a set can hold: the words of one tick copied there, and the badges that are in them.
-ghost use Rattle.std.specs.Prelude.{◌≡◌, ◌+◌, ◌<◌, min, length};
-ghost use Rattle.sets.specs.Members.{capacity, row_words, members};
-ghost use Rattle.sets.specs.Words.{places, set_at, words_of};
+ghost use Rattle.std.specs.Prelude.{◌≡◌, ◌+◌, ◌<◌};
+ghost use Rattle.sets.specs.Members.{capacity, members};
+ghost use Rattle.sets.specs.Words.{set_at, words_of};
 ghost use Rattle.checks.specs.Arrays.{tick_over, in_use, union_of};
 ghost use Rattle.checks.specs.Changes.{UnionOver};
 
 use sets::{BadgeSet, CAPACITY, ROW_WORDS, SET_WORDS, WORD_BITS, set_at};
 
-// The smaller of a tick's number of sets and the number of rows.
-fn row_count(tick: &[u64]) -> usize
-    ensures { result ≡ min capacity (places tick.now) }
-{
-    let sets = tick.len() / SET_WORDS;
-    if sets < CAPACITY { sets } else { CAPACITY }
-}
-
-// Copies the words of one tick over the words of rows, set by set as many as there are of both.
-fn copy_words(rows: &mut [u64], tick: &[u64])
-    requires { length rows.old ≡ row_words }
-    ensures { rows.new ≡ words_of (tick_over tick.now rows.old) }
-{
-    for i in 0..SET_WORDS * row_count(tick) {
-        rows[i] = tick[i];
-    }
-}
-
-// Copies the sets of one tick over the rows: as many as there are rows, and where it has fewer, the other rows stay. The rows are written through a slice of
-// them all, since of a slice made from an array it is known how many elements it has.
+// Copies the sets of one tick over the rows: as many as there are rows, and where it has fewer, the other rows stay.
 pub fn copy_tick(rows: &mut [u64; ROW_WORDS], tick: &[u64])
     ensures { rows.new ≡ words_of (tick_over tick.now rows.old) }
 {
-    copy_words(&mut rows[..], tick);
+    let count = SET_WORDS * CAPACITY.min(tick.len() / SET_WORDS);
+    rows[..count].copy_from_slice(&tick[..count]);
 }
 
 // The badges that are in one of two rows.
@@ -41,9 +23,9 @@ fn two_rows(rows: &[u64], u: usize) -> BadgeSet
     set_at(rows, u).union(set_at(rows, u + 1))
 }
 
-// Every badge that is in one of the rows in use, eight rows in a turn: in so few turns of known places, the compiler leaves no test of a place. Of n badges
-// that are in the first word, or in its lower half, no later row is looked at.
-fn unite(rows: &[u64], n: usize) -> BadgeSet
+// Every badge that is in one of the rows in use of n badges, eight rows in a turn: in so few turns of known places, the compiler leaves no test of a place.
+// Of n badges that are in the first word, or in its lower half, no later row is looked at. Rows that are empty from n on have no other.
+pub fn united(rows: &[u64; ROW_WORDS], n: usize) -> BadgeSet
     ensures { members result ≡ union_of (in_use n) rows.now }
 {
     let mut all = BadgeSet::EMPTY;
@@ -60,15 +42,7 @@ fn unite(rows: &[u64], n: usize) -> BadgeSet
         }
         let first = two_rows(rows, 8 * i).union(two_rows(rows, 8 * i + 2));
         let second = two_rows(rows, 8 * i + 4).union(two_rows(rows, 8 * i + 6));
-        let next = all.union(first.union(second));
-        all = next;
+        all = all.union(first.union(second));
     }
     all
-}
-
-// Every badge that is in one of the rows in use of n badges, of rows in an array. Rows that are empty from n on have no other.
-pub fn united(rows: &[u64; ROW_WORDS], n: usize) -> BadgeSet
-    ensures { members result ≡ union_of (in_use n) rows.now }
-{
-    unite(&rows[..], n)
 }

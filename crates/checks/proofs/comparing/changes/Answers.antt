@@ -9,7 +9,7 @@ loop-u-init c = (search rules, c.changes_by_eight-all.ensures)
 
 pub loop-u-preserved : goal.loop-u-preserved
 loop-u-preserved c =
-    (search rules, union-join c.loop-u.invariant.1 (union-one _ _ c.change_at.ensures) c.union-next.ensures (omega arith) (omega arith) (omega arith) (omega arith))
+    (search rules, union-join c.loop-u.invariant.1 (union-one _ _ c.change_at.ensures) c.union-all.ensures (omega arith) (omega arith) (omega arith) (omega arith))
 
 pub returns : goal.returns
 returns c = union-to _ (omega arith) c.loop-u.invariant.1

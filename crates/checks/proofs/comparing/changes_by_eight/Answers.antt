@@ -10,10 +10,10 @@ unfolding from_words
 returns-then-eights-eq0 c = union-to _ (omega (arith, c.if-eights-eq0.true)) (union-none _ 0)
 
 pub loop-i-init : goal.loop-i-init
-loop-i-init c = (search rules, c.eight_changes-all.ensures)
+loop-i-init c = (search rules, c.some_changes-all.ensures)
 
 pub loop-i-preserved : goal.loop-i-preserved
-loop-i-preserved c = (search rules, union-join c.loop-i.invariant.1 c.eight_changes.ensures c.union-next.ensures (omega arith) (omega arith) (omega arith) (omega arith))
+loop-i-preserved c = (search rules, union-join c.loop-i.invariant.1 c.some_changes.ensures c.union-all.ensures (omega arith) (omega arith) (omega arith) (omega arith))
 
 pub returns : goal.returns
 returns c = union-to _ (omega arith) c.loop-i.invariant.1

@@ -1,4 +1,4 @@
--- `unite` meets its contract: after i turns the set is the union over 8 * i rows, and past those of half a word, or of a word, n is above them.
+-- `united` meets its contract: after i turns the set is the union over 8 * i rows, and past those of half a word, or of a word, n is above them.
 use mathlib.Core.Path.{refl}
 use mathlib.Core.Logic.{by_cases}
 use Prim.Native.Nat.{◌*◌, ◌/◌}
@@ -8,8 +8,8 @@ use borrow.Author.Rules.{rules}
 use Rattle.sets.specs.Words.{word_bits, from_words}
 use Rattle.checks.proofs.Changes.{union-none, union-join}
 use Rattle.checks.proofs.TickRows.{in-use-all, in-use-word, in-use-half, union-over}
-use Rattle.checks.proofs.rows.unite.Goals as goal
-use Rattle.checks.proofs.rows.unite.Goals.{After-union}
+use Rattle.checks.proofs.rows.united.Goals as goal
+use Rattle.checks.proofs.rows.united.Goals.{After-union}
 
 pub loop-i-init : goal.loop-i-init
 unfolding from_words
@@ -27,7 +27,7 @@ loop-i-preserved c =
     let second = union-join s.two_rows-in-loop-i-2.ensures s.two_rows-in-loop-i-3.ensures s.union-second.ensures (omega arith) (omega arith) (omega arith) refl in
     let both = union-join first second b.union.ensures (omega arith) (omega arith) (omega arith) refl in (
       omega arith,
-      union-join l.loop-i.invariant.1 both c.union-next.ensures (omega arith) (omega arith) (omega arith) (omega arith),
+      union-join l.loop-i.invariant.1 both c.union-all.ensures (omega arith) (omega arith) (omega arith) (omega arith),
       λ m. elim i.if-i.branch [ goal.then-i+else-n h ↦ h.if-n.false | goal.else-i h ↦ by_cases (dec_lt (word_bits / 2) (8 * l.loop-i.i)) l.loop-i.invariant.2 (λ k. absurd (h.if-i.false (omega (arith, m, k)))) ],
       λ m. elim j.if-i-2.branch [ goal.then-i-2+else-n-le-WORD_BITS h ↦ h.if-n-le-WORD_BITS.false | goal.else-i-2 h ↦ by_cases (dec_lt word_bits (8 * l.loop-i.i)) l.loop-i.invariant.3 (λ k. absurd (h.if-i-2.false (omega (arith, m, k)))) ],
     )
