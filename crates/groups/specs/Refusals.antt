@@ -1,13 +1,9 @@
 -- Which of document 01's outcomes each answer of the group part is.
-use Rattle.std.specs.Prelude.{ℕ}
+use Rattle.std.specs.Prelude.{ℕ, Result}
 use Rattle.records.specs.Outcomes as log
-use Rattle.records.specs.Outcomes.{Outcome, refused, success}
+use Rattle.records.specs.Outcomes.{Outcome, outcome_of}
 use Rattle.groups.specs.declared.refusal.Refusal.{Refusal}
 use Rattle.groups.specs.declared.refusal.Refusal.TheVariants as r
-use Rattle.groups.specs.declared.reviewing.Judged.{Judged}
-use Rattle.groups.specs.declared.reviewing.Judged.TheVariants as j
-use Rattle.groups.specs.declared.answer.Written.{Written}
-use Rattle.groups.specs.declared.answer.Written.TheVariants as w
 
 -- the number of each case: the log part's own, 12 to 14, 17, 20 and 21
 abbrev pub number_of : Refusal → ℕ
@@ -29,15 +25,10 @@ offset_of r.ThresholdOutOfRange = 0
 offset_of r.InvalidReview = 0
 offset_of r.QueryNotReviewed = 0
 
-abbrev pub refused_by : {A : Type 0} → Refusal → Outcome A
-refused_by x = refused (number_of x) (offset_of x)
-
 -- what judging the words and the reviewed set comes to
-abbrev pub judged_outcome : Judged → Outcome (Unit {0})
-judged_outcome j.Passed = success tt
-judged_outcome (j.Refused x) = refused_by x
+abbrev pub judged_outcome : Result (Unit {0}) Refusal → Outcome (Unit {0})
+judged_outcome r = outcome_of number_of offset_of r
 
 -- what a call that fills a result buffer answers
-abbrev pub written_outcome : Written → Outcome ℕ
-written_outcome (w.Bytes count) = success count
-written_outcome (w.Refused x) = refused_by x
+abbrev pub written_outcome : Result ℕ Refusal → Outcome ℕ
+written_outcome r = outcome_of number_of offset_of r

@@ -6,7 +6,6 @@
 
 #![tactic(auto)]
 
-mod answer;
 mod circling;
 mod day;
 mod encoding;
@@ -22,8 +21,8 @@ mod rows;
 mod scoring;
 mod writing;
 
-pub use answer::Written;
 pub use form::set_bytes;
+pub use logs::Reason;
 pub use numbers::core_numbers;
 pub use planning::plan;
 pub use refusal::Refusal;

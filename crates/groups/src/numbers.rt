@@ -8,10 +8,9 @@ ghost use Rattle.spans.specs.Judging.{span_judged};
 ghost use Rattle.groups.specs.Refusals.{written_outcome};
 ghost use Rattle.groups.specs.Calls.{core_numbers_of};
 
-use crate::answer::{Written, delivered};
 use crate::day::{Day, Span};
 use crate::refusal::Refusal;
-use crate::reviewing::{Judged, judge_review};
+use crate::reviewing::judge_review;
 use crate::rows::span_rows;
 use sets::BadgeSet;
 
@@ -24,16 +23,16 @@ fn number_span(
     first: usize,
     last: usize,
     buffer: &mut [u8],
-) -> Written
+) -> Result<usize, Refusal>
     requires { LentDay badges ticks words.now × Review badges (members review) }
     ensures answer { written_outcome result ≡ (deliver (span_judged badges ticks words.now (members review) first last) buffer.old).answer }
     ensures leaves { buffer.new ≡ (deliver (span_judged badges ticks words.now (members review) first last) buffer.old).buffer }
 {
     if last < first {
-        return Written::Refused(Refusal::InvalidSpan);
+        return Err(Refusal::InvalidSpan);
     }
     if ticks <= last {
-        return Written::Refused(Refusal::InvalidSpan);
+        return Err(Refusal::InvalidSpan);
     }
     let day = Day {
         badges,
@@ -42,7 +41,7 @@ fn number_span(
     };
     let rows = span_rows(words, day, Span { first, last });
     let numbers = cores::core_numbers(rows, review);
-    delivered(logs::deliver(&numbers[..badges], buffer))
+    Ok(logs::deliver(&numbers[..badges], buffer)?)
 }
 
 // Puts the core number of each badge on the span from tick first to tick last, among the badges under review, into the buffer that is lent, one byte a
@@ -56,12 +55,10 @@ pub fn core_numbers(
     first: usize,
     last: usize,
     buffer: &mut [u8],
-) -> Written
+) -> Result<usize, Refusal>
     ensures answer { written_outcome result ≡ (core_numbers_of badges ticks words.now (members review) first last buffer.old).answer }
     ensures leaves { buffer.new ≡ (core_numbers_of badges ticks words.now (members review) first last buffer.old).buffer }
 {
-    match judge_review(words, badges, ticks, review) {
-        Judged::Refused(refusal) => Written::Refused(refusal),
-        Judged::Passed => number_span(words, badges, ticks, review, first, last, buffer),
-    }
+    judge_review(words, badges, ticks, review)?;
+    number_span(words, badges, ticks, review, first, last, buffer)
 }

@@ -14,12 +14,11 @@ ghost use Rattle.groups.specs.Scoring.{PlanParts, EncodesPlan};
 ghost use Rattle.groups.specs.Calls.{plan_of};
 ghost use Rattle.groups.specs.ShiftPlans.{PlanShown};
 
-use crate::answer::Written;
 use crate::day::{Day, Span};
 use crate::encoding::{Shown, append_record, put_core};
 use crate::form::{Form, form_of, set_bytes};
 use crate::refusal::Refusal;
-use crate::reviewing::{Judged, judge_review};
+use crate::reviewing::judge_review;
 use crate::rows::span_rows;
 use crate::scoring::fill_scores;
 use logs::{Record, put_record};
@@ -124,27 +123,27 @@ fn plan_day(
     query: BadgeSet,
     parts: usize,
     buffer: &mut [u8],
-) -> Written
+) -> Result<usize, Refusal>
     requires { LentDay badges ticks words.now × Review badges (members review) }
     ensures answer { written_outcome result ≡ (deliver (plan_judged badges ticks words.now (members review) (members query) parts) buffer.old).answer }
     ensures leaves { buffer.new ≡ (deliver (plan_judged badges ticks words.now (members review) (members query) parts) buffer.old).buffer }
 {
     if !query.is_subset(BadgeSet::full(badges)) {
-        return Written::Refused(Refusal::ForeignQuery);
+        return Err(Refusal::ForeignQuery);
     }
     if !query.is_subset(review) {
-        return Written::Refused(Refusal::QueryNotReviewed);
+        return Err(Refusal::QueryNotReviewed);
     }
     if parts < 1 {
-        return Written::Refused(Refusal::InvalidParts);
+        return Err(Refusal::InvalidParts);
     }
     if ticks < parts {
-        return Written::Refused(Refusal::InvalidParts);
+        return Err(Refusal::InvalidParts);
     }
     let record = 5 + set_bytes(badges);
     let size = 6 + record + record * parts;
     if buffer.len() < size {
-        return Written::Refused(Refusal::Log(logs::Refusal::BufferTooShort));
+        return Err(Refusal::Log(logs::Refusal::BufferTooShort));
     }
     let mut scores = [0u8; 9216];
     let day = Day {
@@ -155,7 +154,7 @@ fn plan_day(
     fill_scores(words, day, query, &mut scores);
     let ends = cuts::best_ends(&scores, ticks, parts);
     encode_plan(words, day, query, parts, &ends, &scores, buffer);
-    Written::Bytes(size)
+    Ok(size)
 }
 
 // Plans a shift around a query, among the badges under review: cuts the day into parts runs with the greatest sum of scores, and of such cuttings the one
@@ -169,13 +168,11 @@ pub fn plan(
     query: BadgeSet,
     parts: usize,
     buffer: &mut [u8],
-) -> Written
+) -> Result<usize, Refusal>
     ensures answer { written_outcome result ≡ (plan_of badges ticks words.now (members review) (members query) parts buffer.old).answer }
     ensures leaves { buffer.new ≡ (plan_of badges ticks words.now (members review) (members query) parts buffer.old).buffer }
     ensures shown { PlanShown badges ticks words.now (members review) (members query) parts (written_outcome result) buffer.new }
 {
-    match judge_review(words, badges, ticks, review) {
-        Judged::Refused(refusal) => Written::Refused(refusal),
-        Judged::Passed => plan_day(words, badges, ticks, review, query, parts, buffer),
-    }
+    judge_review(words, badges, ticks, review)?;
+    plan_day(words, badges, ticks, review, query, parts, buffer)
 }

@@ -1,8 +1,11 @@
 // Why a call of the group part refuses: the refusals of the log part, and its own.
 ghost use Rattle.std.specs.Prelude.{◌≡◌};
+ghost use Rattle.groups.specs.declared.refusal.Refusal.TheVariants.{Log};
 ghost use Rattle.groups.specs.Refusals.{number_of, offset_of};
 
-#[derive(Clone, Copy)]
+use logs::Reason;
+
+#[derive(Clone, Copy, Debug, PartialEq, Eq)]
 pub enum Refusal {
     // One that the log part gives: 8 to 11 by the calls here, and 1 to 8 by the listing, which reads a log.
     Log(logs::Refusal),
@@ -20,11 +23,20 @@ pub enum Refusal {
     QueryNotReviewed,
 }
 
-impl Refusal {
-    // The number of a refusal in documents 01 and 02.
-    pub fn number(self) -> u8
-        ensures { result ≡ number_of self }
-    {
+impl From<logs::Refusal> for Refusal {
+    ghost from_gives = { λ refusal result. result ≡ Log refusal };
+
+    fn from(refusal: logs::Refusal) -> Refusal {
+        Refusal::Log(refusal)
+    }
+}
+
+impl Reason for Refusal {
+    ghost number = { number_of };
+
+    ghost offset = { offset_of };
+
+    fn number(self) -> u8 {
         match self {
             Refusal::Log(refusal) => refusal.number(),
             Refusal::InvalidSpan => 12,
@@ -36,18 +48,15 @@ impl Refusal {
         }
     }
 
-    // The byte offset that goes with it.
-    pub fn offset(self) -> usize
-        ensures { result ≡ offset_of self }
-    {
+    fn offset(self) -> usize {
         match self {
             Refusal::Log(refusal) => refusal.offset(),
-            Refusal::InvalidSpan => 0,
-            Refusal::ForeignQuery => 0,
-            Refusal::InvalidParts => 0,
-            Refusal::ThresholdOutOfRange => 0,
-            Refusal::InvalidReview => 0,
-            Refusal::QueryNotReviewed => 0,
+            Refusal::InvalidSpan
+            | Refusal::ForeignQuery
+            | Refusal::InvalidParts
+            | Refusal::ThresholdOutOfRange
+            | Refusal::InvalidReview
+            | Refusal::QueryNotReviewed => 0,
         }
     }
 }

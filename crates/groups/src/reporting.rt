@@ -10,12 +10,11 @@ ghost use Rattle.groups.specs.Appending.{DeliversReport};
 ghost use Rattle.groups.specs.Calls.{report_of};
 ghost use Rattle.groups.specs.GroupReports.{Reported};
 
-use crate::answer::Written;
 use crate::day::Day;
 use crate::form::set_bytes;
 use crate::keeping::find_cores;
 use crate::refusal::Refusal;
-use crate::reviewing::{Judged, judge_review};
+use crate::reviewing::judge_review;
 use crate::writing::write_report;
 use sets::{BadgeSet, SET_WORDS};
 use thresholds::Thresholds;
@@ -23,7 +22,7 @@ use thresholds::Thresholds;
 // Puts a report into the buffer that is lent: judged by 9. The cores are found and kept, and the records of their circles counted, before the buffer is
 // touched; then the records are written straight into it. There is room for a pack and a set for a core on each of 4,656 spans. What they hold first does not
 // matter: ones are put there by wide stores, where zeros would be by a call that counts a step for each byte.
-fn report_groups(words: &[u64], day: Day, least: Thresholds, buffer: &mut [u8]) -> Written
+fn report_groups(words: &[u64], day: Day, least: Thresholds, buffer: &mut [u8]) -> Result<usize, Refusal>
     requires { LentDay day.badges day.ticks words.now × Review day.badges (members day.review) × (1 ≤ least.members) }
     ensures { DeliversReport day.badges day.ticks words.now (members day.review) least (written_outcome result) buffer.old buffer.new }
 {
@@ -32,10 +31,10 @@ fn report_groups(words: &[u64], day: Day, least: Thresholds, buffer: &mut [u8]) 
     let tally = find_cores(words, day, least, &mut packs, &mut memory);
     let size = 10 + (5 + set_bytes(day.badges)) * tally.records;
     if buffer.len() < size {
-        return Written::Refused(Refusal::Log(logs::Refusal::BufferTooShort));
+        return Err(Refusal::Log(logs::Refusal::BufferTooShort));
     }
     write_report(words, day, least, &packs, &memory, tally.cores, buffer);
-    Written::Bytes(size)
+    Ok(size)
 }
 
 // Puts the report of a day whose words and badges under review have passed into the buffer that is lent: judged by 17 and 9.
@@ -46,13 +45,13 @@ fn report_day(
     review: BadgeSet,
     least: Thresholds,
     buffer: &mut [u8],
-) -> Written
+) -> Result<usize, Refusal>
     requires { LentDay badges ticks words.now × Review badges (members review) }
     ensures answer { written_outcome result ≡ (deliver (report_judged badges ticks words.now (members review) least) buffer.old).answer }
     ensures leaves { buffer.new ≡ (deliver (report_judged badges ticks words.now (members review) least) buffer.old).buffer }
 {
     if !least.in_range() {
-        return Written::Refused(Refusal::ThresholdOutOfRange);
+        return Err(Refusal::ThresholdOutOfRange);
     }
     let day = Day {
         badges,
@@ -72,13 +71,11 @@ pub fn report(
     review: BadgeSet,
     least: Thresholds,
     buffer: &mut [u8],
-) -> Written
+) -> Result<usize, Refusal>
     ensures answer { written_outcome result ≡ (report_of badges ticks words.now (members review) least buffer.old).answer }
     ensures leaves { buffer.new ≡ (report_of badges ticks words.now (members review) least buffer.old).buffer }
     ensures groups { Reported badges ticks words.now (members review) least (written_outcome result) buffer.new }
 {
-    match judge_review(words, badges, ticks, review) {
-        Judged::Refused(refusal) => Written::Refused(refusal),
-        Judged::Passed => report_day(words, badges, ticks, review, least, buffer),
-    }
+    judge_review(words, badges, ticks, review)?;
+    report_day(words, badges, ticks, review, least, buffer)
 }

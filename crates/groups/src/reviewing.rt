@@ -8,36 +8,27 @@ ghost use Rattle.spans.specs.Judging.{review_of};
 ghost use Rattle.groups.specs.Refusals.{judged_outcome};
 
 use crate::refusal::Refusal;
-use logs::{Checked, check_words};
+use logs::check_words;
 use sets::BadgeSet;
 
-// A day and a review of it, or a refusal.
-#[derive(Clone, Copy)]
-pub(crate) enum Judged {
-    Passed,
-    Refused(Refusal),
-}
-
 // Judges a set of badges under review by 20: it has to be a non-empty set of the day's badges.
-fn judge_set(badges: usize, review: BadgeSet) -> Judged
+fn judge_set(badges: usize, review: BadgeSet) -> Result<(), Refusal>
     requires { badges ≤ capacity }
     ensures { judged_outcome result ≡ refuse_if (isnt (is_review badges (members review))) 20 0 (success tt) }
 {
     if review.is_empty() {
-        return Judged::Refused(Refusal::InvalidReview);
+        return Err(Refusal::InvalidReview);
     }
     if !review.is_subset(BadgeSet::full(badges)) {
-        return Judged::Refused(Refusal::InvalidReview);
+        return Err(Refusal::InvalidReview);
     }
-    Judged::Passed
+    Ok(())
 }
 
 // Judges day words, handed over with n and T, by 10, 8 and 11, and then the badges under review by 20.
-pub(crate) fn judge_review(words: &[u64], badges: usize, ticks: usize, review: BadgeSet) -> Judged
+pub(crate) fn judge_review(words: &[u64], badges: usize, ticks: usize, review: BadgeSet) -> Result<(), Refusal>
     ensures { judged_outcome result ≡ review_of badges ticks words.now (members review) }
 {
-    match check_words(words, badges, ticks) {
-        Checked::Refused(refusal) => Judged::Refused(Refusal::Log(refusal)),
-        Checked::Day => judge_set(badges, review),
-    }
+    check_words(words, badges, ticks)?;
+    judge_set(badges, review)
 }
