@@ -12,6 +12,6 @@ mod pieces;
 mod preparing;
 mod shown;
 
-pub use groups::{Refusal, Written};
+pub use groups::{Reason, Refusal};
 pub use pieces::{Piece, lines};
 pub use preparing::prepare;

@@ -5,7 +5,7 @@ ghost use Rattle.text.specs.Pieces.{piece_of};
 ghost use Rattle.text.specs.Calls.{shown_lines};
 
 use crate::shown::{line_count, make_line};
-use groups::Written;
+use groups::Refusal;
 use logs::put;
 
 // How far a piece came: the place of the next line, and the number of bytes written.
@@ -18,7 +18,7 @@ pub struct Piece {
 // Fills a buffer with as many whole lines as it holds, from a place on, of those that prepare's answer shows with the report that it left.
 // Bytes after them are never touched. No line of a listing has more than 434 bytes: with a buffer of 434 or more each call gives a line until
 // there is none, and then 0 bytes.
-pub fn lines(answer: Written, report: &[u8], from: usize, buffer: &mut [u8]) -> Piece
+pub fn lines(answer: Result<usize, Refusal>, report: &[u8], from: usize, buffer: &mut [u8]) -> Piece
     ensures next { result.next ≡ (piece_of (shown_lines (written_outcome answer) report.now) from buffer.old).next }
     ensures bytes { result.bytes ≡ (piece_of (shown_lines (written_outcome answer) report.now) from buffer.old).bytes }
     ensures leaves { buffer.new ≡ (piece_of (shown_lines (written_outcome answer) report.now) from buffer.old).buffer }

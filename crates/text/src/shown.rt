@@ -9,17 +9,14 @@ ghost use Rattle.text.specs.Calls.{shown_lines};
 ghost use Rattle.text.specs.Making.{line_room, line_count, Makes};
 
 use crate::line::{group_line, head_line, refusal_line};
-use groups::{Written, set_bytes};
-use sets::{BadgeSet, widen};
+use groups::{Reason, Refusal, set_bytes};
+use sets::BadgeSet;
 
 // The byte at a place, 0 after the last.
 fn byte_at(bytes: &[u8], at: usize) -> u8
     ensures { result ≡ get_or bytes.now at 0 }
 {
-    if bytes.len() <= at {
-        return 0;
-    }
-    bytes[at]
+    bytes.get(at).copied().unwrap_or(0)
 }
 
 // The number that so many bytes say, eight at most, the lowest first.
@@ -41,7 +38,7 @@ fn width_of(report: &[u8]) -> usize
     ensures value { result ≡ (form_of (head_badges report.now)).set_bytes }
     ensures bounds { (8 ≤ result) × (result ≤ 16) }
 {
-    set_bytes(widen(byte_at(report, 2)))
+    set_bytes(usize::from(byte_at(report, 2)))
 }
 
 // Makes the line of the group whose record, with a set of so many bytes, stands at a place of a report: its first 8 bytes say the lower word of the set, and
@@ -71,12 +68,12 @@ fn record_count(size: usize, width: usize) -> usize
 }
 
 // How many lines an answer shows, with the report that it left.
-pub(crate) fn line_count(answer: Written, report: &[u8]) -> usize
+pub(crate) fn line_count(answer: Result<usize, Refusal>, report: &[u8]) -> usize
     ensures { result ≡ line_count (written_outcome answer) report.now }
 {
     match answer {
-        Written::Refused(_) => 1,
-        Written::Bytes(size) => record_count(size, width_of(report)) + 1,
+        Err(_) => 1,
+        Ok(size) => record_count(size, width_of(report)) + 1,
     }
 }
 
@@ -98,12 +95,12 @@ fn report_line(size: usize, report: &[u8], i: usize, line: &mut [u8]) -> usize
 }
 
 // Makes the line at a place, of those that an answer shows, and answers how many bytes it has.
-pub(crate) fn make_line(answer: Written, report: &[u8], i: usize, line: &mut [u8]) -> usize
+pub(crate) fn make_line(answer: Result<usize, Refusal>, report: &[u8], i: usize, line: &mut [u8]) -> usize
     requires { (i < line_count (written_outcome answer) report.now) × (length line.old ≡ line_room) }
     ensures { Makes (get_or (shown_lines (written_outcome answer) report.now) i []) result line.new }
 {
     match answer {
-        Written::Refused(refusal) => refusal_line(refusal.number(), refusal.offset(), line),
-        Written::Bytes(size) => report_line(size, report, i, line),
+        Err(refusal) => refusal_line(refusal.number(), refusal.offset(), line),
+        Ok(size) => report_line(size, report, i, line),
     }
 }
