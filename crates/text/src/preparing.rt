@@ -17,13 +17,12 @@ pub fn prepare(log: &[u8], words: &mut [u64], buffer: &mut [u8]) -> Result<usize
     ensures leaves { buffer.new ≡ (prepare_of log.now words.old buffer.old).report }
 {
     let accepted = read(log, words)?;
-    let badges = accepted.badges;
-    let review = BadgeSet::full(badges);
+    let all = BadgeSet::full(accepted.badges);
     report(
         words,
-        badges,
+        accepted.badges,
         accepted.ticks,
-        review,
+        all,
         Thresholds::PLAIN,
         buffer,
     )

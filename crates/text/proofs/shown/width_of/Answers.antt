@@ -7,6 +7,6 @@ use Rattle.text.proofs.shown.width_of.Goals as goal
 
 pub returns : goal.returns
 returns c =
-    let e = c.set_bytes.ensures ∙ ap (λ (n : ℕ). (form_of n).set_bytes) (c.widen.ensures.0 ∙ c.byte_at.ensures) in
+    let e = c.set_bytes.ensures ∙ ap (λ (n : ℕ). (form_of n).set_bytes) (c.from.ensures ∙ c.byte_at.ensures) in
     let m = marked _ in
     record { value = e; bounds = (rw e m.least, rw e m.most) }
