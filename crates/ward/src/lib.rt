@@ -18,7 +18,7 @@ ghost use Rattle.groups.specs.GroupReports.{Reported};
 ghost use Rattle.groups.specs.ShiftPlans.{PlanShown};
 ghost use Rattle.ward.specs.Answers.{read_answer, join_answer, written_answer};
 
-use answers::{group_answer, join_answer, log_answer, read_answer, trace_answer};
+use answers::{join_answer, read_answer, written_answer};
 use groups::Thresholds;
 use sets::BadgeSet;
 
@@ -58,7 +58,7 @@ pub extern "C" fn ward_tidy(log: &[u8], work: &mut [u64], out: &mut [u8], answer
     ensures leaves { out.new ≡ (tidy_of log.now work.old out.old).buffer }
 {
     let written = logs::tidy(log, work, out);
-    *answer = log_answer(written);
+    *answer = written_answer(written);
 }
 
 // logs::write.
@@ -74,7 +74,7 @@ pub extern "C" fn ward_write(
     ensures leaves { out.new ≡ (write_of badges ticks words.now out.old).buffer }
 {
     let written = logs::write(words, badges, ticks, out);
-    *answer = log_answer(written);
+    *answer = written_answer(written);
 }
 
 // trace::trace.
@@ -93,7 +93,7 @@ pub extern "C" fn ward_trace(
     ensures trace { Traced badges ticks words.now index start (trace_of badges ticks words.now index start out.old).answer out.new }
 {
     let written = trace::trace(words, badges, ticks, index, start, out);
-    *answer = trace_answer(written);
+    *answer = written_answer(written);
 }
 
 // groups::core_numbers: the badges under review are a set in two numbers, bit u of the first for badge u, and of the second for badge 64 + u.
@@ -114,7 +114,7 @@ pub extern "C" fn ward_core_numbers(
 {
     let reviewed = BadgeSet::from_words(review_low, review_high);
     let written = groups::core_numbers(words, badges, ticks, reviewed, first, last, out);
-    *answer = group_answer(written);
+    *answer = written_answer(written);
 }
 
 // groups::report: the badges under review are a set, as before. Its thresholds are handed over as the least length in ticks, the least order and the least number of members.
@@ -142,7 +142,7 @@ pub extern "C" fn ward_report(
     };
     let reviewed = BadgeSet::from_words(review_low, review_high);
     let written = groups::report(words, badges, ticks, reviewed, least, out);
-    *answer = group_answer(written);
+    *answer = written_answer(written);
 }
 
 // groups::plan: the badges under review and the query are sets, each in two numbers.
@@ -166,5 +166,5 @@ pub extern "C" fn ward_plan(
     let reviewed = BadgeSet::from_words(review_low, review_high);
     let set = BadgeSet::from_words(query_low, query_high);
     let written = groups::plan(words, badges, ticks, reviewed, set, parts, out);
-    *answer = group_answer(written);
+    *answer = written_answer(written);
 }

@@ -7,6 +7,6 @@ pub returns : goal.returns
 returns c =
     let r = rw c.from_words-reviewed.ensures at c.core_numbers-written.ensures in
     record {
-      answer = c.group_answer.ensures ∙ ap written_answer r.answer;
+      answer = c.written_answer.ensures ∙ ap written_answer r.answer;
       leaves = r.leaves;
     }

@@ -7,7 +7,7 @@ pub returns : goal.returns
 returns c =
     let r = rw (c.from_words-reviewed.ensures, c.from_words-set.ensures) at c.plan-written.ensures in
     record {
-      answer = c.group_answer.ensures ∙ ap written_answer r.answer;
+      answer = c.written_answer.ensures ∙ ap written_answer r.answer;
       leaves = r.leaves;
       shown = rw r.answer at r.shown;
     }

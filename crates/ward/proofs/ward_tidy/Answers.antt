@@ -7,7 +7,7 @@ pub returns : goal.returns
 returns c =
     let r = c.tidy-written.ensures in
     record {
-      answer = c.log_answer.ensures ∙ ap written_answer r.answer;
+      answer = c.written_answer.ensures ∙ ap written_answer r.answer;
       words = r.words;
       leaves = r.leaves;
     }

@@ -7,7 +7,7 @@ pub returns : goal.returns
 returns c =
     let r = c.trace-written.ensures in
     record {
-      answer = c.trace_answer.ensures ∙ ap written_answer r.answer;
+      answer = c.written_answer.ensures ∙ ap written_answer r.answer;
       leaves = r.leaves;
       trace = rw r.answer at r.trace;
     }

@@ -7,6 +7,6 @@ pub returns : goal.returns
 returns c =
     let r = c.write-written.ensures in
     record {
-      answer = c.log_answer.ensures ∙ ap written_answer r.answer;
+      answer = c.written_answer.ensures ∙ ap written_answer r.answer;
       leaves = r.leaves;
     }
