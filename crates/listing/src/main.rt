@@ -6,7 +6,7 @@ ghost use Rattle.std.specs.Prelude.{◌≤◌, length, IfOk};
 
 use std::io;
 use std::io::Read;
-use text::{Written, lines, prepare};
+use text::{Refusal, lines, prepare};
 
 // A line for each group, and the first: a report of 65,536 bytes has at most 5,040 groups, of 13 bytes each and 10 beside them.
 const MOST_LINES: usize = 5041;
@@ -28,7 +28,12 @@ fn read_full<R: Read>(input: &mut R, buffer: &mut [u8]) -> io::Result<usize>
 
 // Writes the next lines from a place on, as many as a buffer holds, and answers the place of the line after them: the same place where
 // there is no line left.
-fn write_some(rt: &impl Print, answer: Written, report: &[u8], from: usize) -> io::Result<usize> {
+fn write_some(
+    rt: &impl Print,
+    answer: Result<usize, Refusal>,
+    report: &[u8],
+    from: usize,
+) -> io::Result<usize> {
     let mut buffer = [0u8; 65536];
     let piece = lines(answer, report, from, &mut buffer);
     let size = piece.bytes;
@@ -37,7 +42,7 @@ fn write_some(rt: &impl Print, answer: Written, report: &[u8], from: usize) -> i
 }
 
 // Writes all lines. A buffer holds at least one of them.
-fn write_listing(rt: &impl Print, answer: Written, report: &[u8]) -> io::Result<()> {
+fn write_listing(rt: &impl Print, answer: Result<usize, Refusal>, report: &[u8]) -> io::Result<()> {
     let mut from: usize = 0;
     for _ in 0..MOST_LINES {
         let next = write_some(rt, answer, report, from)?;

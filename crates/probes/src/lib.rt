@@ -13,7 +13,6 @@ ghost use Rattle.probes.specs.Listings.{listed_of, lines_of};
 
 use answers::listing_answer;
 use sets::{BadgeSet, CAPACITY, ROW_WORDS};
-use text::Written;
 
 // text::prepare of a log, and then text::lines, from a line on, of what it answers and leaves.
 #[unsafe(no_mangle)]
@@ -47,7 +46,7 @@ pub extern "C" fn probe_lines(
     ensures answer { answer.new ≡ (lines_of size report.now from out.old).answer }
     ensures leaves { out.new ≡ (lines_of size report.now from out.old).out }
 {
-    let prepared = Written::Bytes(size);
+    let prepared = Ok(size);
     let piece = text::lines(prepared, report, from, out);
     *answer = listing_answer(prepared, piece);
 }

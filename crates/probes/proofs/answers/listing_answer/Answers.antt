@@ -2,10 +2,10 @@
 use Rattle.probes.specs.Listings.{listing_answer}
 use Rattle.probes.proofs.answers.listing_answer.Goals as goal
 
-pub returns-in-Bytes : goal.returns-in-Bytes
+pub returns-in-Ok : goal.returns-in-Ok
 unfolding listing_answer
-returns-in-Bytes c = rw c.in-Bytes.is
+returns-in-Ok c = rw c.in-Ok.is
 
-pub returns-in-Refused : goal.returns-in-Refused
+pub returns-in-Err : goal.returns-in-Err
 unfolding listing_answer
-returns-in-Refused c = rw (c.in-Refused.is, c.number.ensures, c.offset.ensures)
+returns-in-Err c = rw (c.in-Err.is, c.from.ensures, c.number.ensures, c.offset.ensures)
