@@ -12,19 +12,25 @@ use lib.Seq.{get_or-set_same, get_or-set_other, set_at, append_snoc}
 use lib.Dec.{eqb}
 use borrow.Author.Tests.{lt-ltb, le-ltb, eqb-true, eqb-false}
 use borrow.Rule.Slice.PartMut.{mid_of}
-use Rattle.std.proofs.lemmas.List.{length-take, get_or-take, get_or-drop}
+use Rattle.std.proofs.lemmas.List.{length-take, length-drop, get_or-take, get_or-drop}
 use Rattle.cuts.specs.Sums.{first_greatest, sum_with, later_ends, best_sum, end_after, ends_from, best_ends, table_score}
 use Rattle.cuts.specs.Steps.{GreatestOf, row_sum, row_after, run_sum, SmallAfter, IsGreatestSum, Entry, Filled}
 use Rattle.cuts.proofs.Sums.{greatest-take, greatest-keep, greatest-same, is-greatest, best-sum-suc, end-greatest}
 use Rattle.cuts.proofs.Greatest.{greatest-none, greatest-one, greatest-both, greatest-of-same, at-first-greatest}
 
--- ---- a part of a row
+-- ---- columns of a row
 
--- element k of the n elements from the a-th on is in the list, k places after the a-th
-pub part-at : (xs : List ℕ) (a n : ℕ) {k i : ℕ} → k < length (mid_of a n xs) → i ≡ a + k → (k < n) × (get_or (mid_of a n xs) k 0 ≡ get_or xs i 0)
-part-at xs a n {k} l q =
-    let m : k < n = omega (arith, length-take n (drop a xs)) in
-    (m, rw q (get_or-take n (drop a xs) k 0 m ∙ get_or-drop a xs k 0))
+-- the columns t to stop - 1 of the row that starts at a place of a table, and the k-th of them
+abbrev pub columns : List ℕ → ℕ → ℕ → ℕ → List ℕ
+columns xs row t stop = mid_of t (stop - t) (mid_of row (9216 - row) xs)
+
+pub column-at : (xs : List ℕ) (row t stop : ℕ) {k : ℕ} → k < length (columns xs row t stop)
+    → (t + k < stop) × (get_or (columns xs row t stop) k 0 ≡ get_or xs (row + (t + k)) 0)
+column-at xs row t stop {k} l =
+    let rest = mid_of row (9216 - row) xs in
+    let m : k < stop - t = omega (arith, length-take (stop - t) (drop t rest)) in
+    let n : t + k < 9216 - row = omega (arith, length-take (stop - t) (drop t rest), length-drop t rest, length-take (9216 - row) (drop row xs)) in
+    (omega arith, get_or-take (stop - t) (drop t rest) k 0 m ∙ get_or-drop t rest k 0 ∙ get_or-take (9216 - row) (drop row xs) (t + k) 0 n ∙ get_or-drop row xs (t + k) 0)
 
 -- ---- trying the ends of a run
 
@@ -41,27 +47,6 @@ run-sum-in scores sums c t e q = rw (q, after-in sums c e)
 -- and that entry is small
 pub small-in : {sums : List ℕ} {c t stop e : ℕ} → SmallAfter sums c t stop → t ≤ e → e < stop → get_or sums (c * 96 + 1 + e) 0 ≤ 255 * suc c
 small-in {sums} {c} {e = e} a l m = rw (after-in sums c e) (a.small.at e l m)
-
--- so the k-th score of a part of a row, and the k-th sum of a part of the table, are those at end t + k
-pub record PairAt (scores sums : List ℕ) (c t stop k x y : ℕ) : Type 0 where
-  pub tried : t + k < stop
-  pub small : x + y ≤ 255 * suc (suc c)
-  pub sum : x + y ≡ run_sum scores sums c t (t + k)
-
-pub pair-at : (scores sums : List ℕ) {c t stop k x y : ℕ} → ((i : ℕ) → get_or scores i 0 < 256) → SmallAfter sums c t stop
-    → k < length (mid_of (t * 96 + t) (t * 96 + stop - (t * 96 + t)) scores) → k < length (mid_of (c * 96 + 1 + t) (c * 96 + 1 + stop - (c * 96 + 1 + t)) sums)
-    → x ≡ get_or (mid_of (t * 96 + t) (t * 96 + stop - (t * 96 + t)) scores) k 0 → y ≡ get_or (mid_of (c * 96 + 1 + t) (c * 96 + 1 + stop - (c * 96 + 1 + t)) sums) k 0
-    → PairAt scores sums c t stop k x y
-pair-at scores sums {c} {t} {stop} {k} {x} {y} f s l m p q =
-    let a = part-at scores (t * 96 + t) _ {i = t * 96 + (t + k)} l (omega arith) in
-    let b = part-at sums (c * 96 + 1 + t) _ {i = c * 96 + 1 + (t + k)} m (omega arith) in
-    let w : t + k < stop = omega (arith, a.0) in
-    let z = small-in {e = t + k} s (omega arith) w in
-    record {
-      tried = w;
-      small = omega (arith, p ∙ a.1, q ∙ b.1, f (t * 96 + (t + k)));
-      sum = rw (q ∙ b.1) (run-sum-in scores sums c t (t + k) (p ∙ a.1));
-    }
 
 -- of the ends t to e - 1, `end` is the first at which g is greatest, and there it is `greatest`
 pub record Tried (g : ℕ → ℕ) (t e end greatest : ℕ) : Type 0 where

@@ -43,16 +43,16 @@ fn best_end(scores: &[u8; PLACES], sums: &[u16; PLACES], c: usize, t: usize, sto
 }
 
 // The greatest sum of a run from t that ends at one of the ticks t to stop - 1, and of the runs after it. It does not say at which end, so that the
-// compiler can vectorise the loop.
+// compiler can vectorise the loop. It takes columns of both tables by their number: zipped slices of them cost a check more for each sum.
 fn greatest_sum(scores: &[u8; PLACES], sums: &[u16; PLACES], c: usize, t: usize, stop: usize) -> u16
     requires { (c < TICKS) × (t < stop) × (stop < TICKS) × SmallAfter sums.now c t stop }
     ensures { IsGreatestSum scores.now sums.now c t stop result }
 {
-    let row = &scores[t * TICKS + t..t * TICKS + stop];
-    let after = &sums[c * TICKS + 1 + t..c * TICKS + 1 + stop];
+    let row = t * TICKS;
+    let after = c * TICKS + 1;
     let mut greatest = 0;
-    for (score, sum) in row.iter().zip(after) {
-        greatest = greatest.max(u16::from(*score) + *sum);
+    for e in t..stop {
+        greatest = greatest.max(u16::from(scores[row + e]) + sums[after + e]);
     }
     greatest
 }
@@ -83,7 +83,7 @@ fn row_maximum(scores: &[u8; PLACES], t: usize, ticks: usize) -> u8
     ensures { GreatestOf (table_score scores.now t) t ticks result }
 {
     let mut maximum = 0;
-    for score in &scores[t * TICKS + t..t * TICKS + ticks] {
+    for score in &scores[t * TICKS..][t..ticks] {
         maximum = maximum.max(*score);
     }
     maximum
