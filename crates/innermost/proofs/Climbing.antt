@@ -7,11 +7,11 @@ use native.Mathlib.Nat.{le_refl, le_of_lt}
 use native.Mathlib.Decide.{dec_le, dec_lt}
 use native.Mathlib.Omega.{arith}
 use lib.Dec.{ltb}
-use borrow.Author.Tests.{ltb-true, lt-ltb}
+use borrow.Author.Tests.{lt-ltb}
 use Rattle.sets.specs.Bools.{◌and◌}
 use Rattle.sets.specs.Sets.{In, Sub, is_sub}
 use Rattle.sets.specs.Members.{capacity}
-use Rattle.sets.proofs.Bools.{clash, and_in, and_left}
+use Rattle.sets.proofs.Bools.{clash, and_in}
 use Rattle.sets.proofs.Sets.{sub_refl, sub_trans, sub-pos, sub-antisym, is-sub-in}
 use Rattle.sets.proofs.Size.{size-le}
 use Rattle.planes.specs.Lanes.{half}

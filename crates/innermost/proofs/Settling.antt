@@ -1,6 +1,6 @@
 -- Laws of dropping, all at once, the badges whose in-degree is below an order: what is left holds the core, and it is the core where nobody
 -- is dropped. There is no core where fewer badges are left than the order.
-use mathlib.Core.Path.{◌≡◌, refl, sym, ap}
+use mathlib.Core.Path.{◌≡◌, ap}
 use mathlib.Core.Bool.{true, false}
 use mathlib.Core.Logic.{by_cases}
 use Prim.Native.Nat.{ℕ, ◌^◌, ◌≤◌, ◌<◌}

@@ -165,7 +165,8 @@ pub fn highest(
     climb(rows, base, query, above, stop)
 }
 
-// The same core: the rows go in by value, and come back with it. Between members they have its pairs; what a caller does next, it does with them.
+// The same core: the rows go in by value, and come back with it. Between members they have its pairs; what a caller does next, it does with them. Both forms
+// are public, and a promise to callers, so that neither of them and neither of their types goes into the other.
 pub fn highest_core(
     rows: [u64; ROW_WORDS],
     base: BadgeSet,
