@@ -7,14 +7,30 @@ use Prim.Native.Nat.{ℕ, zero, suc, ◌+◌, ◌-◌, ◌*◌, ◌≤◌, ◌<�
 use native.Mathlib.Nat.{le_trans, eq-or-lt_of_le}
 use native.Mathlib.Numerals.{add-one}
 use native.Mathlib.Omega.{arith}
-use lib.ListN.{length, get_or, set, replicate, length-set, length-append}
+use lib.ListN.{length, get_or, set, replicate, drop, length-set, length-append}
 use lib.Seq.{get_or-set_same, get_or-set_other, set_at, append_snoc}
 use lib.Dec.{eqb}
 use borrow.Author.Tests.{lt-ltb, le-ltb, eqb-true, eqb-false}
+use borrow.Rule.Slice.PartMut.{mid_of}
+use Rattle.std.proofs.lemmas.List.{length-take, length-drop, get_or-take, get_or-drop}
 use Rattle.cuts.specs.Sums.{first_greatest, sum_with, later_ends, best_sum, end_after, ends_from, best_ends, table_score}
 use Rattle.cuts.specs.Steps.{GreatestOf, row_sum, row_after, run_sum, SmallAfter, IsGreatestSum, Entry, Filled}
 use Rattle.cuts.proofs.Sums.{greatest-take, greatest-keep, greatest-same, is-greatest, best-sum-suc, end-greatest}
 use Rattle.cuts.proofs.Greatest.{greatest-none, greatest-one, greatest-both, greatest-of-same, at-first-greatest}
+
+-- ---- columns of a row
+
+-- the columns t to stop - 1 of the row that starts at a place of a table, and the k-th of them
+abbrev pub columns : List ℕ → ℕ → ℕ → ℕ → List ℕ
+columns xs row t stop = mid_of t (stop - t) (mid_of row (9216 - row) xs)
+
+pub column-at : (xs : List ℕ) (row t stop : ℕ) {k : ℕ} → k < length (columns xs row t stop)
+    → (t + k < stop) × (get_or (columns xs row t stop) k 0 ≡ get_or xs (row + (t + k)) 0)
+column-at xs row t stop {k} l =
+    let rest = mid_of row (9216 - row) xs in
+    let m : k < stop - t = omega (arith, length-take (stop - t) (drop t rest)) in
+    let n : t + k < 9216 - row = omega (arith, length-take (stop - t) (drop t rest), length-drop t rest, length-take (9216 - row) (drop row xs)) in
+    (omega arith, get_or-take (stop - t) (drop t rest) k 0 m ∙ get_or-drop t rest k 0 ∙ get_or-take (9216 - row) (drop row xs) (t + k) 0 n ∙ get_or-drop row xs (t + k) 0)
 
 -- ---- trying the ends of a run
 

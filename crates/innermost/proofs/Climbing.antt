@@ -7,11 +7,11 @@ use native.Mathlib.Nat.{le_refl, le_of_lt}
 use native.Mathlib.Decide.{dec_le, dec_lt}
 use native.Mathlib.Omega.{arith}
 use lib.Dec.{ltb}
-use borrow.Author.Tests.{ltb-true, lt-ltb}
+use borrow.Author.Tests.{lt-ltb}
 use Rattle.sets.specs.Bools.{◌and◌}
 use Rattle.sets.specs.Sets.{In, Sub, is_sub}
 use Rattle.sets.specs.Members.{capacity}
-use Rattle.sets.proofs.Bools.{clash, and_in, and_left}
+use Rattle.sets.proofs.Bools.{clash, and_in}
 use Rattle.sets.proofs.Sets.{sub_refl, sub_trans, sub-pos, sub-antisym, is-sub-in}
 use Rattle.sets.proofs.Size.{size-le}
 use Rattle.planes.specs.Lanes.{half}
@@ -93,31 +93,32 @@ module _ {rows : ℕ → ℕ} {s k m : ℕ} {a : ℕ → ℕ} (c : Counting rows
   pub lanes-least : (d : ℕ) → d + m + 1 ≤ k + half → (v : ℕ) → In s v → d ≤ in_degree rows s v
   lanes-least d e v i = omega (arith, g.each v i, c.each v i)
 
-module _ {rows : ℕ → ℕ} {base query above stop order found left : ℕ} {a : ℕ → ℕ} (h : Climbing rows base query above stop order found left a)
-    {next : ℕ} {b : ℕ → ℕ} (k : ℕ) (e : k ≡ order + 1) (s : Settled rows left query k next b) where
-  -- the test of what is left is that of the core of the next order
-  pub climbing-test : (ltb 0 next and is_sub query next) ≡ contains (transposed rows base) base query (order + 1)
+module _ {rows : ℕ → ℕ} {base query above stop order found left : ℕ} {a : ℕ → ℕ} (h : Climbing rows base query above stop order found left a) (k : ℕ) (e : k ≡ order + 1) where
+  -- among the badges left, the core of the next order is that among the base
+  pub climbing-test : contains (transposed rows left) left query k ≡ contains (transposed rows base) base query (order + 1)
   unfolding contains
-  climbing-test = rw e at s.tested ∙ rw (h.same (order + 1) (omega arith))
+  climbing-test = rw (e, h.same (order + 1) (omega arith)) refl
 
-  module _ (l : order < stop) (t : (ltb 0 next and is_sub query next) ≡ true) where
-    some_left : 0 < next
-    some_left = ltb-true _ _ (and_left _ _ t)
-
+  module _ {next : ℕ} {b : ℕ → ℕ} (s : Settled rows left query k next b) where
     next-core : next ≡ core (transposed rows base) base (order + 1)
-    next-core = rw e at (s.found some_left) ∙ h.same (order + 1) (omega arith)
+    next-core = rw e at s.found ∙ h.same (order + 1) (omega arith)
 
     next-within : Sub next base
     next-within = rw next-core (core-sub (transposed rows base) base (order + 1))
 
-    -- if it passes, it is the highest core so far
-    pub climbing-more : {c : ℕ → ℕ} → stop ≤ half → Raised next (λ v. 1) b c → Climbing rows base query above stop (order + 1) next next c
-    climbing-more f p = record {
+    -- if it contains the query, it is the highest core so far
+    pub climbing-more : {c : ℕ → ℕ} → order < stop → stop ≤ half → Raised next (λ v. 1) b c → Climbing rows base query above stop (order + 1) next next c
+    climbing-more l f p = record {
       within = next-within;
       same = λ j m. core-transposed rows base next j next-within ∙ ap (λ (x : ℕ). core (transposed rows base) x j) next-core ∙ core-again (transposed rows base) base (order + 1) j (omega arith);
-      counting = λ m. counting-raised (rw e at (s.counting some_left)) (omega arith) p;
-      climbed = climb-more h.climbed l (sym climbing-test ∙ t) next-core;
+      counting = λ m. counting-raised (rw e at s.counting) (omega arith) p;
+      climbed = climb-more h.climbed l (sym climbing-test ∙ s.contained) next-core;
     }
+
+-- and it is there, and contains the query
+pub settled-contains : {rows : ℕ → ℕ} {s query k next : ℕ} {b : ℕ → ℕ} → Settled rows s query k next b → (ltb 0 next and is_sub query next) ≡ true
+unfolding contains
+settled-contains s = rw s.found s.contained
 
 pub climbing-end : {rows : ℕ → ℕ} {base query above stop order found left : ℕ} {a : ℕ → ℕ} → Climbing rows base query above stop order found left a
     → (contains (transposed rows base) base query (order + 1) ≡ false) ⊎ (stop ≤ order) → HighestFound (transposed rows base) base query above stop order found

@@ -6,9 +6,9 @@ use native.Mathlib.Nat.{le_refl, le_of_lt}
 use native.Mathlib.Omega.{arith}
 use lib.Bits.{bit_and}
 use lib.Count.{count_trailing_zeros}
-use lib.ListN.{length, get_or}
+use lib.ListN.{length}
 use Rattle.sets.specs.Sets.{bit, In, difference, only, full}
-use Rattle.sets.specs.Words.{word_bits, set_words}
+use Rattle.sets.specs.Words.{word_bits}
 use Rattle.sets.proofs.Sets.{in-full, of-full, full-suc}
 use Rattle.sets.proofs.Bits.{bit-none}
 use Rattle.sets.proofs.Size.{size-without}
@@ -16,7 +16,7 @@ use Rattle.sets.proofs.Smallest.{smallest-trailing, smallest-member, without-sma
 use Rattle.planes.specs.Lanes.{lane, half, Plus}
 use Rattle.planes.proofs.Lanes.{plus-sum}
 use Rattle.innermost.specs.Columns.{in_degree}
-use Rattle.innermost.specs.Counting.{row_word, TakesRow, AddsSome, AddsTo}
+use Rattle.innermost.specs.Counting.{TakesRow, AddsSome, AddsTo}
 use Rattle.innermost.proofs.Columns.{in-degree-split, in-degree-less, in-degree-none, in-degree-full-none, in-degree-full-eight}
 
 -- the smallest member's row is taken, or none where there is no member
@@ -26,15 +26,15 @@ takes_none rows e = rw e (record { falls = λ p. absurd (omega arith); never_ris
 pub takes_one : (rows : ℕ → ℕ) (s u : ℕ) {rest : ℕ} → In s u → rest ≡ difference s (only u) → TakesRow rows s (rows u) rest
 takes_one rows s u i e = rw e (record { falls = λ p. size-without s u i; never_rises = le_of_lt (size-without s u i); each = λ v. in-degree-less rows s u v i })
 
--- the first badge of a word is the smallest, by its trailing zeros; the word at its place in the rows is taken
+-- the first badge of a word is the smallest, by its trailing zeros; its row is taken
 pub first-badge : (word : ℕ) → word < 2 ^ word_bits → (word ≡ 0 → ⊥) → In word (count_trailing_zeros word_bits word) × (count_trailing_zeros word_bits word < word_bits)
 first-badge word w f = rw (smallest-trailing word_bits word) at (smallest-member word_bits word w f)
 
-pub takes_first : (rows : List ℕ) (word from side i : ℕ) → word < 2 ^ word_bits → (word ≡ 0 → ⊥) → i ≡ (from + count_trailing_zeros word_bits word) * set_words + side
-    → TakesRow (row_word rows from side) word (get_or rows i 0) (bit_and word (word - 1))
-takes_first rows word from side i w f e =
+pub takes_first : (rows : ℕ → ℕ) (word : ℕ) {row : ℕ} → word < 2 ^ word_bits → (word ≡ 0 → ⊥) → row ≡ rows (count_trailing_zeros word_bits word)
+    → TakesRow rows word row (bit_and word (word - 1))
+takes_first rows word w f e =
     let r : bit_and word (word - 1) ≡ difference word (only (count_trailing_zeros word_bits word)) = rw (smallest-trailing word_bits word) at (without-smallest word_bits word w f) in
-    rw e (takes_one (row_word rows from side) word (count_trailing_zeros word_bits word) (first-badge word w f).0 r)
+    rw e (takes_one rows word (count_trailing_zeros word_bits word) (first-badge word w f).0 r)
 
 -- eight rows are taken and added
 pub adds-eight : {rows : ℕ → ℕ} {s a b c d e f g h s1 s2 s3 s4 s5 s6 s7 s8 : ℕ} {ps qs : List ℕ}

@@ -1,18 +1,19 @@
 -- Laws of dropping, all at once, the badges whose in-degree is below an order: what is left holds the core, and it is the core where nobody
 -- is dropped. There is no core where fewer badges are left than the order.
-use mathlib.Core.Path.{◌≡◌, refl, sym, ap}
-use mathlib.Core.Bool.{Bool, true, false}
+use mathlib.Core.Path.{◌≡◌, ap}
+use mathlib.Core.Bool.{true, false}
 use mathlib.Core.Logic.{by_cases}
 use Prim.Native.Nat.{ℕ, ◌^◌, ◌≤◌, ◌<◌}
-use native.Mathlib.Decide.{dec_le}
+use native.Mathlib.Decide.{dec_le, dec_lt}
 use native.Mathlib.Omega.{arith}
-use borrow.Author.Tests.{le-ltb}
+use lib.Dec.{ltb}
+use borrow.Author.Tests.{lt-ltb}
 use Rattle.sets.specs.Bools.{◌and◌}
 use Rattle.sets.specs.Sets.{In, Sub, is_sub, intersection, difference, size}
 use Rattle.sets.specs.Members.{capacity}
-use Rattle.sets.proofs.Bools.{clash}
+use Rattle.sets.proofs.Bools.{clash, and_in, to-false}
 use Rattle.sets.proofs.Sets.{not-in-none, some, in-intersection, of-intersection-left, of-intersection-right, in-difference, of-difference, in-lt, sub_trans, sub-antisym, is-sub-in}
-use Rattle.sets.proofs.Size.{size_mono, none-of-size, size-split}
+use Rattle.sets.proofs.Size.{size_none, size_mono, none-of-size, size-split}
 use Rattle.planes.specs.Lanes.{half}
 use Rattle.cores.specs.Graphs.{degree}
 use Rattle.cores.specs.Cores.{core}
@@ -82,23 +83,14 @@ module _ {rows : ℕ → ℕ} {s k left : ℕ} (w : s < 2 ^ capacity) {a : ℕ �
           (λ l. rw (degree-transposed rows s left v h.peeling.within) l)
           (λ f. let d = in-intersection left top v i (low-in v i (omega arith)) in absurd (not-in-none v (rw (← e, z) at d)))
 
-  pub settling-end : (query : ℕ) → low ≡ 0 → Settled rows s query k left a
+  pub settling-end : (query : ℕ) → low ≡ 0 → (ltb 0 left and is_sub query left) ≡ true → Settled rows s query k left a
   unfolding contains
-  settling-end query z = let f = settling-core z in record { tested = rw (← f); found = λ p. f; counting = λ p. h.counting }
+  settling-end query z t = let f = settling-core z in record { contained = rw (← f) t; found = f; counting = h.counting }
 
 -- There is no core of an order above the number of badges left, and none that contains a query of which a badge is not left.
-nothing_left : (rows : ℕ → ℕ) (s query k : ℕ) {left : ℕ} (a : ℕ → ℕ) → left ≡ 0 → contains (transposed rows s) s query k ≡ false → Settled rows s query k left a
-unfolding ◌and◌
-nothing_left rows s query k a e f =
-    rw e (record { tested = rw (le-ltb 0 0 (omega arith)) (sym f); found = λ p. absurd (omega arith); counting = λ p. absurd (omega arith) })
-
-fails : (b : Bool) → (b ≡ true → ⊥) → b ≡ false
-fails true f = absurd (f refl)
-fails false f = refl
-
-module _ {rows : ℕ → ℕ} {s k left : ℕ} (h : Peeling (transposed rows s) s k left) (query : ℕ) {none : ℕ} (a : ℕ → ℕ) (z : none ≡ 0) where
-  pub too_few : size left < k → Settled rows s query k none a
-  too_few l = nothing_left rows s query k a z (fails _ (λ t.
+module _ (rows : ℕ → ℕ) {s k left : ℕ} (h : Peeling (transposed rows s) s k left) (query : ℕ) where
+  pub too_few : size left < k → contains (transposed rows s) s query k ≡ false
+  too_few l = to-false _ (λ t.
       let p = (contains-of (transposed rows s) s query k t).0 in
       let m = some (core (transposed rows s) s k) (λ e. omega arith) in
       omega (
@@ -106,8 +98,11 @@ module _ {rows : ℕ → ℕ} {s k left : ℕ} (h : Peeling (transposed rows s) 
         (core-cohesive (transposed rows s) s k).each m.0 m.1,
         degree-le (transposed rows s) (core (transposed rows s) s k) m.0,
         size_mono h.holds,
-      )))
+      ))
 
-  pub query-lost : is_sub query left ≡ false → Settled rows s query k none a
-  query-lost f = nothing_left rows s query k a z (fails _ (λ t.
-      clash (is-sub-in (sub_trans (contains-of (transposed rows s) s query k t).1 h.holds)) f))
+  pub query-lost : is_sub query left ≡ false → contains (transposed rows s) s query k ≡ false
+  query-lost f = to-false _ (λ t. clash (is-sub-in (sub_trans (contains-of (transposed rows s) s query k t).1 h.holds)) f)
+
+-- Where neither is so, the query is in what is left.
+pub still-contained : (query left : ℕ) {k : ℕ} → 1 ≤ k → k ≤ size left → is_sub query left ≡ true → (ltb 0 left and is_sub query left) ≡ true
+still-contained query left l m t = and_in _ _ (lt-ltb 0 left (by_cases (dec_lt 0 left) (λ p. p) (λ f. let z : left ≡ 0 = omega arith in absurd (omega (arith, ap size z, size_none))))) t

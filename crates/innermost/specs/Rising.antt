@@ -1,17 +1,16 @@
 -- What the private functions that find the highest core, by in-degrees that are counted while the order rises, promise.
-use Rattle.std.specs.Prelude.{true, ◌≡◌, ◌⊎◌, ℕ, ◌+◌, ◌≤◌, ◌<◌, ltb}
-use Rattle.sets.specs.Bools.{◌and◌}
-use Rattle.sets.specs.Sets.{Sub, is_sub}
+use Rattle.std.specs.Prelude.{true, ◌≡◌, ◌⊎◌, ℕ, ◌+◌, ◌≤◌, ◌<◌}
+use Rattle.sets.specs.Sets.{Sub}
 use Rattle.cores.specs.Cores.{core}
 use Rattle.cores.specs.Orders.{contains}
 use Rattle.innermost.specs.Columns.{transposed}
 use Rattle.innermost.specs.Degrees.{Counting}
 
--- What is left of a set s at order k: the core of the transposed graph, counted, if it contains the query; else nothing that does.
+-- What is left of a set s at order k: the core of the transposed graph, which contains the query, counted.
 pub record Settled (rows : ℕ → ℕ) (s query k : ℕ) (left : ℕ) (a : ℕ → ℕ) : Type 0 where
-  pub tested : (ltb 0 left and is_sub query left) ≡ contains (transposed rows s) s query k
-  pub found : 0 < left → left ≡ core (transposed rows s) s k
-  pub counting : 0 < left → Counting rows left k a
+  pub contained : contains (transposed rows s) s query k ≡ true
+  pub found : left ≡ core (transposed rows s) s k
+  pub counting : Counting rows left k a
 
 -- The order and the members of the highest core of a graph that was found so far, of those above one order and up to another that contain the query.
 pub record Climbed (g : ℕ → ℕ) (base query above most order s : ℕ) : Type 0 where

@@ -3,8 +3,8 @@
 // Rows are added word by word: the words of the rows of the badges of one word, of which the first is `from`, and of these words those of one `side`, that is
 // of one place in each row. So lane v of the planes of a side counts badge v of that word of a set. Where nobody is left among the badges of the upper word,
 // their planes are not worked on, and nobody looks at them: so a day of few badges costs what it would cost with sets of one word.
-ghost use Rattle.std.specs.Prelude.{◌≡◌, ◌+◌, ◌≤◌, ◌<◌, length};
-ghost use Rattle.sets.specs.Members.{members, capacity, row_words};
+ghost use Rattle.std.specs.Prelude.{◌≡◌, ◌+◌, ◌≤◌, ◌<◌};
+ghost use Rattle.sets.specs.Members.{members, capacity};
 ghost use Rattle.sets.specs.Words.{word_bits, set_words};
 ghost use Rattle.sets.specs.Sets.{full};
 ghost use Rattle.planes.specs.Lanes.{planes_of, half};
@@ -37,117 +37,132 @@ struct Summed {
     unseen: u64,
 }
 
-// Takes a word of the row of the smallest badge of a word; an empty one where it has none.
-fn take(rows: &[u64], word: u64, from: usize, side: usize) -> Taken
-    requires { (length rows.now ≡ row_words) × (from + word_bits ≤ capacity) × (side < set_words) }
-    ensures { TakesRow (row_word rows.now from side) word result.row result.rest }
-{
-    if word == 0 {
-        return Taken { row: 0, rest: 0 };
-    }
-    let u = from + u64::trailing_zeros(word) as usize;
-    Taken {
-        row: rows[SET_WORDS * u + side],
-        rest: word & (word - 1),
-    }
+// The rows of the badges of one word, of which the first is `from`, and of each of these rows the word at one place, its side.
+#[derive(Clone, Copy)]
+struct SideRows<'a> {
+    rows: &'a [u64; ROW_WORDS],
+    from: usize,
+    side: usize,
+    ghost in_rows: { (from + word_bits ≤ capacity) × (side < set_words) },
 }
 
-// Adds the rows of eight badges of a word, or of all where there are fewer.
-fn add_eight_rows(p: Planes, rows: &[u64], word: u64, from: usize, side: usize) -> Summed
-    requires { (length rows.now ≡ row_words) × (from + word_bits ≤ capacity) × (side < set_words) }
-    ensures { AddsSome (row_word rows.now from side) word result.unseen (planes_of p) (planes_of result.planes) }
-{
-    let a = take(rows, word, from, side);
-    let b = take(rows, a.rest, from, side);
-    let c = take(rows, b.rest, from, side);
-    let d = take(rows, c.rest, from, side);
-    let e = take(rows, d.rest, from, side);
-    let f = take(rows, e.rest, from, side);
-    let g = take(rows, f.rest, from, side);
-    let h = take(rows, g.rest, from, side);
-    let unseen = h.rest;
-    Summed {
-        planes: planes::add_eight(p, a.row, b.row, c.row, d.row, e.row, f.row, g.row, h.row),
-        unseen,
+impl SideRows<'_> {
+    // The word of badge u of these.
+    fn word(self, u: usize) -> u64
+        requires { u < word_bits }
+        ensures { result ≡ row_word self.entry.rows.now self.entry.from self.entry.side u }
+    {
+        self.rows[SET_WORDS * (self.from + u) + self.side]
     }
-}
 
-// Adds the rows of all badges of a word.
-fn add_all(p: Planes, rows: &[u64], from: usize, side: usize) -> Planes
-    requires { (length rows.now ≡ row_words) × (from + word_bits ≤ capacity) × (side < set_words) }
-    ensures { AddsTo (in_degree (row_word rows.now from side) (full word_bits)) (planes_of p) (planes_of result) }
-{
-    let mut out = p;
-    let mut u: usize = 0;
-    while u < WORD_BITS {
-        let at = SET_WORDS * (from + u) + side;
-        let next = planes::add_eight(
-            out,
-            rows[at],
-            rows[at + SET_WORDS],
-            rows[at + 2 * SET_WORDS],
-            rows[at + 3 * SET_WORDS],
-            rows[at + 4 * SET_WORDS],
-            rows[at + 5 * SET_WORDS],
-            rows[at + 6 * SET_WORDS],
-            rows[at + 7 * SET_WORDS],
-        );
-        out = next;
-        u += 8;
+    // Takes the word of the smallest badge of a word; an empty one where it has none.
+    fn take(self, word: u64) -> Taken
+        ensures { TakesRow (row_word self.entry.rows.now self.entry.from self.entry.side) word result.row result.rest }
+    {
+        if word == 0 {
+            return Taken { row: 0, rest: 0 };
+        }
+        Taken {
+            row: self.word(u64::trailing_zeros(word) as usize),
+            rest: word & (word - 1),
+        }
     }
-    out
-}
 
-// Adds the rows of the badges of a word, eight at a time.
-fn add_by_eight(p: Planes, rows: &[u64], word: u64, from: usize, side: usize) -> Planes
-    requires { (length rows.now ≡ row_words) × (from + word_bits ≤ capacity) × (side < set_words) }
-    ensures { AddsTo (in_degree (row_word rows.now from side) word) (planes_of p) (planes_of result) }
-{
-    let mut out = p;
-    let mut unseen = word;
-    while unseen != 0 {
-        let next = add_eight_rows(out, rows, unseen, from, side);
-        let planes = next.planes;
-        out = planes;
-        unseen = next.unseen;
+    // Adds the rows of eight badges of a word, or of all where there are fewer.
+    fn add_eight(self, p: Planes, word: u64) -> Summed
+        ensures { AddsSome (row_word self.entry.rows.now self.entry.from self.entry.side) word result.unseen (planes_of p) (planes_of result.planes) }
+    {
+        let a = self.take(word);
+        let b = self.take(a.rest);
+        let c = self.take(b.rest);
+        let d = self.take(c.rest);
+        let e = self.take(d.rest);
+        let f = self.take(e.rest);
+        let g = self.take(f.rest);
+        let h = self.take(g.rest);
+        let unseen = h.rest;
+        Summed {
+            planes: planes::add_eight(p, a.row, b.row, c.row, d.row, e.row, f.row, g.row, h.row),
+            unseen,
+        }
     }
-    out
-}
 
-// Adds the rows of the badges of a word.
-fn add_word(p: Planes, rows: &[u64], word: u64, from: usize, side: usize) -> Planes
-    requires { (length rows.now ≡ row_words) × (from + word_bits ≤ capacity) × (side < set_words) }
-    ensures { AddsTo (in_degree (row_word rows.now from side) word) (planes_of p) (planes_of result) }
-{
-    if word == planes::EVERY {
-        return add_all(p, rows, from, side);
+    // Adds the rows of all badges of a word.
+    fn add_all(self, p: Planes) -> Planes
+        ensures { AddsTo (in_degree (row_word self.entry.rows.now self.entry.from self.entry.side) (full word_bits)) (planes_of p) (planes_of result) }
+    {
+        let mut out = p;
+        for i in 0..WORD_BITS / 8 {
+            let u = 8 * i;
+            out = planes::add_eight(
+                out,
+                self.word(u),
+                self.word(u + 1),
+                self.word(u + 2),
+                self.word(u + 3),
+                self.word(u + 4),
+                self.word(u + 5),
+                self.word(u + 6),
+                self.word(u + 7),
+            );
+        }
+        out
     }
-    add_by_eight(p, rows, word, from, side)
+
+    // Adds the rows of the badges of a word, eight at a time.
+    fn add_by_eight(self, p: Planes, word: u64) -> Planes
+        ensures { AddsTo (in_degree (row_word self.entry.rows.now self.entry.from self.entry.side) word) (planes_of p) (planes_of result) }
+    {
+        let mut sums = Summed {
+            planes: p,
+            unseen: word,
+        };
+        // A `for` over numbers is no plainer here: badges are taken until none is unseen.
+        while sums.unseen != 0 {
+            sums = self.add_eight(sums.planes, sums.unseen);
+        }
+        sums.planes
+    }
+
+    // Adds the rows of the badges of a word.
+    fn add(self, p: Planes, word: u64) -> Planes
+        ensures { AddsTo (in_degree (row_word self.entry.rows.now self.entry.from self.entry.side) word) (planes_of p) (planes_of result) }
+    {
+        if word == planes::EVERY {
+            return self.add_all(p);
+        }
+        self.add_by_eight(p, word)
+    }
+
+    // Counts the badges of a word no longer: each of their rows is added, two at a time, since the in-degree of each badge in it falls by 1.
+    fn discount(self, p: Planes, word: u64) -> Planes
+        ensures { AddsTo (in_degree (row_word self.entry.rows.now self.entry.from self.entry.side) word) (planes_of p) (planes_of result) }
+    {
+        let mut out = p;
+        let mut unseen = word;
+        // A `for` over numbers is no plainer here: badges are taken until none is unseen.
+        while unseen != 0 {
+            let a = self.take(unseen);
+            let b = self.take(a.rest);
+            out = planes::add_two(out, a.row, b.row);
+            unseen = b.rest;
+        }
+        out
+    }
 }
 
 // The in-degrees in a set of the badges of one side, counted at order k: each lane has k, less the in-degree, above the largest number that is below half of
 // what there is room for. So the last plane has the badges whose in-degree is below k.
-fn count_rows(rows: &[u64], s: BadgeSet, k: usize, side: usize) -> Planes
-    requires { (length rows.now ≡ row_words) × (1 ≤ k) × (k ≤ half) × (side < set_words) }
-    ensures { CountingSide (graph rows.now) (members s) k side (planes_of result) }
-{
-    let mut sums = planes::constant((planes::HALF - k) as u64);
-    let mut i: usize = 0;
-    while i < SET_WORDS {
-        let next = add_word(sums, rows, s.word(i), i * WORD_BITS, side);
-        sums = next;
-        i += 1;
-    }
-    planes::complement(sums)
-}
-
-// The same. The rows come as an array: of a slice made from it, it is known how many words it has; and the compiler sees that they are only read, and copies
-// them nowhere.
 fn count_side(rows: &[u64; ROW_WORDS], s: BadgeSet, k: usize, side: usize) -> Planes
     requires { (1 ≤ k) × (k ≤ half) × (side < set_words) }
     ensures { CountingSide (graph rows.now) (members s) k side (planes_of result) }
 {
-    count_rows(rows, s, k, side)
+    let mut sums = planes::constant((planes::HALF - k) as u64);
+    for i in 0..SET_WORDS {
+        let from = i * WORD_BITS;
+        sums = SideRows { rows, from, side }.add(sums, s.word(i));
+    }
+    planes::complement(sums)
 }
 
 // The in-degrees in a set, counted at order k; those of the upper word where the set has badges there.
@@ -168,35 +183,26 @@ pub(crate) fn count(rows: &[u64; ROW_WORDS], s: BadgeSet, k: usize) -> Degrees
     }
 }
 
-// Counts the badges of a word no longer: each of their rows is added, two at a time, since the in-degree of each badge in it falls by 1.
-fn discount_word(p: Planes, rows: &[u64], word: u64, from: usize, side: usize) -> Planes
-    requires { (length rows.now ≡ row_words) × (from + word_bits ≤ capacity) × (side < set_words) }
-    ensures { AddsTo (in_degree (row_word rows.now from side) word) (planes_of p) (planes_of result) }
-{
-    let mut out = p;
-    let mut unseen = word;
-    while unseen != 0 {
-        let a = take(rows, unseen, from, side);
-        let b = take(rows, a.rest, from, side);
-        let next = planes::add_two(out, a.row, b.row);
-        out = next;
-        unseen = b.rest;
-    }
-    out
-}
-
 // Counts the members of a set no longer, for the badges of one side.
-fn discount_side(p: Planes, rows: &[u64], s: BadgeSet, side: usize) -> Planes
-    requires { (length rows.now ≡ row_words) × (side < set_words) }
+fn discount_side(p: Planes, rows: &[u64; ROW_WORDS], s: BadgeSet, side: usize) -> Planes
+    requires { side < set_words }
     ensures { AddsSide (in_degree (graph rows.now) (members s)) side (planes_of p) (planes_of result) }
 {
-    let lower = discount_word(p, rows, s.word(0), 0, side);
-    discount_word(lower, rows, s.word(1), WORD_BITS, side)
+    let lower = SideRows {
+        rows,
+        from: 0,
+        side,
+    };
+    let upper = SideRows {
+        rows,
+        from: WORD_BITS,
+        side,
+    };
+    upper.discount(lower.discount(p, s.word(0)), s.word(1))
 }
 
-// Counts the members of a set no longer, by the words of the rows, for the badges that are left.
-fn discount_set(d: Degrees, rows: &[u64], s: BadgeSet, left: BadgeSet) -> Degrees
-    requires { length rows.now ≡ row_words }
+// Counts the members of a set no longer, for the badges that are left.
+pub(crate) fn discount(d: Degrees, rows: &[u64; ROW_WORDS], s: BadgeSet, left: BadgeSet) -> Degrees
     ensures { Raised (members left) (in_degree (graph rows.now) (members s)) (number_of d) (number_of result) }
 {
     let low = discount_side(d.low, rows, s, 0);
@@ -208,13 +214,6 @@ fn discount_set(d: Degrees, rows: &[u64], s: BadgeSet, left: BadgeSet) -> Degree
         low,
         high: discount_side(high, rows, s, 1),
     }
-}
-
-// Counts the members of a set no longer, for the badges that are left.
-pub(crate) fn discount(d: Degrees, rows: &[u64; ROW_WORDS], s: BadgeSet, left: BadgeSet) -> Degrees
-    ensures { Raised (members left) (in_degree (graph rows.now) (members s)) (number_of d) (number_of result) }
-{
-    discount_set(d, rows, s, left)
 }
 
 // Counts the badges that are left at the next order.
@@ -248,6 +247,5 @@ pub(crate) fn largest(d: Degrees, s: BadgeSet) -> usize
     if upper == 0 {
         return low;
     }
-    let high = planes::largest(d.high, upper);
-    if low < high { high } else { low }
+    low.max(planes::largest(d.high, upper))
 }

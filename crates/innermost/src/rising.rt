@@ -1,17 +1,17 @@
 // The core of the highest order, by in-degrees that are counted in lanes while the order rises.
-ghost use Rattle.std.specs.Prelude.{◌≡◌, true, ◌≤◌, ◌<◌, min, ltb};
+ghost use Rattle.std.specs.Prelude.{◌≡◌, true, false, ◌≤◌, ◌<◌, ltb, MatchOption};
 ghost use Rattle.sets.specs.Bools.{◌and◌};
 ghost use Rattle.sets.specs.Members.{members, capacity};
 ghost use Rattle.sets.specs.Sets.{is_sub};
 ghost use Rattle.planes.specs.Lanes.{half};
 ghost use Rattle.cores.specs.Rows.{graph, IsHighest};
-ghost use Rattle.cores.specs.Orders.{HighestFound};
+ghost use Rattle.cores.specs.Orders.{contains, HighestFound};
 ghost use Rattle.innermost.specs.Columns.{transposed};
 ghost use Rattle.innermost.specs.Degrees.{number_of, Counting};
 ghost use Rattle.innermost.specs.Rising.{Settled, Climbing};
 
 use crate::lanes::{Degrees, below, count, discount, largest, raise};
-use sets::{BadgeSet, CAPACITY, ROW_WORDS, widen};
+use sets::{BadgeSet, CAPACITY, ROW_WORDS};
 
 // A core: its order, its members, and the rows that it was found in.
 #[derive(Clone, Copy)]
@@ -38,8 +38,7 @@ struct Counted {
 // Where to begin: the highest core that is known, and the in-degrees in the base counted at the order after its own.
 #[derive(Clone, Copy)]
 struct Beginning {
-    order: u8,
-    found: BadgeSet,
+    found: Found,
     degrees: Degrees,
 }
 
@@ -50,55 +49,30 @@ const MANY: u8 = 16;
 fn contains(s: BadgeSet, query: BadgeSet) -> bool
     ensures { result ≡ (ltb 0 (members s) and is_sub (members query) (members s)) }
 {
-    if s.is_empty() {
-        return false;
-    }
-    query.is_subset(s)
+    !s.is_empty() && query.is_subset(s)
 }
 
-// The smaller of a number and a byte.
-fn capped(x: usize, most: u8) -> u8
-    ensures { result ≡ min most x }
+// Drops the badges whose in-degree is below the order, all at once, until there is none: what is left is a core. There is none that contains the query
+// where fewer badges are left than the order asks, or not the whole query.
+fn settle(rows: &[u64; ROW_WORDS], given: Counted, query: BadgeSet, k: usize) -> Option<Counted>
+    requires counted { (1 ≤ k) × (k ≤ half) × Counting (graph rows.now) (members given.members) k (number_of given.degrees) }
+    requires contained { (ltb 0 (members given.members) and is_sub (members query) (members given.members)) ≡ true }
+    ensures { MatchOption result (contains (transposed (graph rows.now) (members given.members)) (members given.members) (members query) k ≡ false) (λ c. Settled (graph rows.now) (members given.members) (members query) k (members c.members) (number_of c.degrees)) }
 {
-    if x < widen(most) { x as u8 } else { most }
-}
-
-// No badges, with any in-degrees.
-fn none(degrees: Degrees) -> Counted
-    ensures { members result.members ≡ 0 }
-{
-    Counted {
-        members: BadgeSet::EMPTY,
-        degrees,
-    }
-}
-
-// Drops the badges whose in-degree is below the order, all at once, until there is none: what is left is a core. It stops where fewer badges
-// are left than the order asks, or not the whole query.
-fn settle(rows: &[u64; ROW_WORDS], given: Counted, query: BadgeSet, k: usize) -> Counted
-    requires { (k ≤ half) × Counting (graph rows.now) (members given.members) k (number_of given.degrees) }
-    ensures { Settled (graph rows.now) (members given.members) (members query) k (members result.members) (number_of result.degrees) }
-{
-    let mut left = given.members;
-    let mut degrees = given.degrees;
+    let mut left = given;
     loop {
-        let low = left.intersection(below(degrees));
+        let low = left.members.intersection(below(left.degrees));
         if low.is_empty() {
-            return Counted {
-                members: left,
-                degrees,
-            };
+            return Some(left);
         }
-        let fewer = left.difference(low);
-        if fewer.size() < k {
-            return none(degrees);
+        let fewer = left.members.difference(low);
+        if fewer.size() < k || !query.is_subset(fewer) {
+            return None;
         }
-        if !query.is_subset(fewer) {
-            return none(degrees);
-        }
-        let next = discount(degrees, rows, low, fewer);
-        degrees = next;
-        left = fewer;
+        left = Counted {
+            members: fewer,
+            degrees: discount(left.degrees, rows, low, fewer),
+        };
     }
 }
 
@@ -106,33 +80,34 @@ fn settle(rows: &[u64; ROW_WORDS], given: Counted, query: BadgeSet, k: usize) ->
 // in-degree: where many orders are to be tried, those up to it are left out. After the last order nothing is counted.
 fn start(rows: &[u64; ROW_WORDS], base: BadgeSet, query: BadgeSet, above: u8, stop: u8) -> Beginning
     requires { (above < stop) × (stop ≤ capacity) × ((ltb 0 (members base) and is_sub (members query) (members base)) ≡ true) }
-    ensures { Climbing (graph rows.now) (members base) (members query) above stop result.order (members result.found) (members base) (number_of result.degrees) }
+    ensures { Climbing (graph rows.now) (members base) (members query) above stop result.found.order (members result.found.members) (members base) (number_of result.degrees) }
 {
-    let degrees = count(rows, base, widen(above) + 1);
+    let degrees = count(rows, base, usize::from(above) + 1);
     let lowest = Beginning {
-        order: above,
-        found: BadgeSet::EMPTY,
+        found: Found {
+            order: above,
+            members: BadgeSet::EMPTY,
+        },
         degrees,
     };
     if stop - above < MANY {
         return lowest;
     }
-    let least = widen(above) + planes::HALF - largest(degrees, base);
-    if least <= widen(above) {
+    let least = usize::from(above) + planes::HALF - largest(degrees, base);
+    if least <= usize::from(above) {
         return lowest;
     }
-    let order = capped(least, stop);
+    let order = least.min(usize::from(stop)) as u8;
+    let found = Found {
+        order,
+        members: base,
+    };
     if order == stop {
-        return Beginning {
-            order,
-            found: base,
-            degrees,
-        };
+        return Beginning { found, degrees };
     }
     Beginning {
-        order,
-        found: base,
-        degrees: count(rows, base, widen(order) + 1),
+        found,
+        degrees: count(rows, base, usize::from(order) + 1),
     }
 }
 
@@ -142,30 +117,26 @@ fn climb(rows: &[u64; ROW_WORDS], base: BadgeSet, query: BadgeSet, above: u8, st
     ensures { HighestFound (transposed (graph rows.now) (members base)) (members base) (members query) above stop result.order (members result.members) }
 {
     let begin = start(rows, base, query, above, stop);
-    let mut order = begin.order;
     let mut found = begin.found;
-    let mut left = base;
-    let mut degrees = begin.degrees;
-    while order < stop {
-        let given = Counted {
-            members: left,
-            degrees,
-        };
-        let next = settle(rows, given, query, widen(order) + 1);
-        if !contains(next.members, query) {
+    let mut left = Counted {
+        members: base,
+        degrees: begin.degrees,
+    };
+    for order in begin.found.order..stop {
+        let Some(core) = settle(rows, left, query, usize::from(order) + 1) else {
             break;
-        }
-        let core = next.members;
-        order += 1;
-        found = core;
-        left = core;
-        let raised = raise(next.degrees, core);
-        degrees = raised;
+        };
+        let members = core.members;
+        found = Found {
+            order: order + 1,
+            members,
+        };
+        left = Counted {
+            members,
+            degrees: raise(core.degrees, members),
+        };
     }
-    Found {
-        order,
-        members: found,
-    }
+    found
 }
 
 // The core of the largest order above one given order and up to another, among the badges of a base set, that contains the query; the lower
@@ -187,14 +158,15 @@ pub fn highest(
     if !contains(base, query) {
         return nothing;
     }
-    let stop = capped(CAPACITY, most);
+    let stop = most.min(CAPACITY as u8);
     if stop <= above {
         return nothing;
     }
     climb(rows, base, query, above, stop)
 }
 
-// The same core: the rows go in by value, and come back with it. Between members they have its pairs; what a caller does next, it does with them.
+// The same core: the rows go in by value, and come back with it. Between members they have its pairs; what a caller does next, it does with them. Both forms
+// are public, and a promise to callers, so that neither of them and neither of their types goes into the other.
 pub fn highest_core(
     rows: [u64; ROW_WORDS],
     base: BadgeSet,

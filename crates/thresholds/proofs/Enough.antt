@@ -48,6 +48,3 @@ unfolding in_range
 ranges_in least r =
     and_in _ _ (and_in _ _ (and_in _ _ (le-leb _ _ r.ticks_low) (le-leb _ _ r.ticks_high)) (and_in _ _ (le-leb _ _ r.order_low) (le-leb _ _ r.order_high)))
     (and_in _ _ (le-leb _ _ r.members_low) (le-leb _ _ r.members_high))
-
--- both together, by which each answer of the test is found
-pub ruleset within = (ranges-of, ranges_in)

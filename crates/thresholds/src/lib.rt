@@ -27,41 +27,18 @@ impl Thresholds {
     };
 
     // Whether each of the three is within its range.
-    #[tactic(auto, using(crate::proofs::Enough::within))]
     pub fn in_range(self) -> bool
         ensures { result ≡ in_range self }
     {
-        if self.ticks < 1 {
-            return false;
-        }
-        if MAX_TICKS < self.ticks {
-            return false;
-        }
-        if self.order < 1 {
-            return false;
-        }
-        if MAX_BADGES - 1 < self.order {
-            return false;
-        }
-        if self.members < 2 {
-            return false;
-        }
-        if MAX_BADGES < self.members {
-            return false;
-        }
-        true
+        (1..=MAX_TICKS).contains(&self.ticks)
+            && (1..MAX_BADGES).contains(&self.order)
+            && (2..=MAX_BADGES).contains(&self.members)
     }
 
     // Whether so many ticks, an order and these members are enough.
     pub fn met_by(self, ticks: usize, order: usize, set: BadgeSet) -> bool
         ensures { result ≡ are_enough self ticks order (size (members set)) }
     {
-        if ticks < self.ticks {
-            return false;
-        }
-        if order < self.order {
-            return false;
-        }
-        self.members <= set.size()
+        self.ticks <= ticks && self.order <= order && self.members <= set.size()
     }
 }

@@ -1,4 +1,4 @@
--- `best_ends` meets its contract: the rows up to c are filled, and in the end those that the walk reads.
+-- `best_ends` meets its contract: the rows below c are filled, and in the end those that the walk reads.
 use mathlib.Core.Path.{sym, ◌∙◌}
 use native.Mathlib.Omega.{arith}
 use borrow.Author.Tests.{ltb-false}
@@ -11,7 +11,7 @@ returns-then-parts-lt1 c =
     sym (ends-none _ _ _ (λ l m n. elim c.then-parts-lt1.branch [
       | goal.then-parts-lt1-via-then-parts-lt1 w ↦ omega arith
       | goal.then-parts-lt1-via-else-parts-lt1+then-ticks-parts w ↦ omega arith
-      | goal.then-parts-lt1-via-else-parts-lt1+else-ticks-parts+then-ticks-gt96 w ↦ omega arith
+      | goal.then-parts-lt1-via-else-parts-lt1+else-ticks-parts+then-ticks-gt-TICKS w ↦ omega arith
     ]))
 
 pub row_maxima-maxima-requires : goal.row_maxima-maxima-requires
@@ -21,15 +21,15 @@ pub fill_first-requires : goal.fill_first-requires
 fill_first-requires c = omega (arith, ltb-false)
 
 pub loop-c-init : goal.loop-c-init
-loop-c-init c = (omega arith, omega (arith, ltb-false), omega (arith, ltb-false), omega arith, c.fill_first.ensures)
+loop-c-init c = (omega arith, omega (arith, ltb-false), omega (arith, ltb-false), c.fill_first.ensures)
 
 pub loop-c-preserved : goal.loop-c-preserved
-loop-c-preserved c = (omega arith, omega arith, omega arith, omega arith, filled-fewer c.fill_row.ensures (omega arith))
+loop-c-preserved c = (omega arith, omega arith, omega arith, filled-fewer c.fill_row.ensures (omega arith))
 
 pub walk_ends-requires : goal.walk_ends-requires
 walk_ends-requires c =
     let i = c.loop-c.invariant in
-    (i.0, i.1, i.2, filled-fewer i.4 (omega arith))
+    (i.0, i.1, i.2, filled-fewer i.3 (omega arith))
 
 pub returns : goal.returns
 returns c =

@@ -10,7 +10,7 @@ pub loop-t-preserved : goal.loop-t-preserved
 loop-t-preserved c =
     let l = c.loop-t in (
       omega arith,
-      partly_more l.invariant.1 l.t l.t _ (λ s l m d. (l, omega arith)) (omega arith) (omega arith) (omega arith) (no_cut _ _ _ _ c.single.ensures.0) (omega (arith, c.single.ensures.1)),
+      partly_more l.invariant.1 l.t l.t _ (λ s l m d. (l, omega arith)) (omega arith) (omega arith) (omega arith) (no_cut _ _ _ _ c.from.ensures) (omega (arith, c.from.ensures)),
     )
 
 pub returns : goal.returns

@@ -1,6 +1,7 @@
 -- `fill_row` meets its contract: where the loop is about to go below column t, row c + 1 is filled from t on, `rest` is the greatest sum that row c has
 -- after these columns, and the rows up to c are as they were.
 use native.Mathlib.Omega.{arith}
+use Rattle.std.proofs.lemmas.Bool.Decides.{nat_tests}
 use Rattle.cuts.proofs.Maxima.{row-bound}
 use Rattle.cuts.proofs.Steps.{table-small, partly-all, row-none, rest-in-table, row_more}
 use Rattle.cuts.proofs.fill_row.Goals as goal
@@ -12,14 +13,13 @@ pub sum_from-requires : goal.sum_from-requires
 sum_from-requires c =
     let b = c.loop-t.invariant.4 in record {
       in_table = (omega arith, omega arith, omega arith, table-small _ _ b.partly.rows (omega arith) (omega arith) (omega arith));
-      row_known = (row-bound c.requires.3 (omega arith) (omega arith), rest-in-table b _ (omega arith) (omega arith) (omega arith) c.greater-rest.ensures);
+      row_known = (row-bound c.requires.3 (omega arith) (omega arith), rest-in-table b _ (omega arith) (omega arith) (omega arith) (grind (arith, nat_tests)));
     }
 
 pub loop-t-preserved : goal.loop-t-preserved
 loop-t-preserved c =
     let i = c.loop-t.invariant in
-    let q = c.greater-rest.ensures in
-    (i.0, i.1, omega arith, omega arith, row_more i.4 _ (omega arith) (omega arith) (omega arith) q _ (omega arith) c.sum_from.ensures)
+    (i.0, i.1, omega arith, omega arith, row_more i.4 _ (omega arith) (omega arith) (omega arith) (grind (arith, nat_tests)) _ (omega arith) c.sum_from.ensures)
 
 pub returns : goal.returns
 returns c = partly-all c.loop-t.invariant.4.partly (omega arith) (omega arith) (omega arith)

@@ -8,6 +8,3 @@ use Rattle.cuts.proofs.fill_row.Given as goal
 abbrev pub invariant-loop-t : goal.invariant-loop-t
 invariant-loop-t l =
     (l.first + l.c + 2 ≡ l.parts) × (l.stop + l.c + 1 ≡ l.ticks) × (l.first ≤ l.t) × (l.t ≤ l.stop) × RowFrom l.scores l.ticks l.parts l.c l.t l.rest l.sums
-
-abbrev pub decreases-loop-t : goal.decreases-loop-t
-decreases-loop-t l = l.t

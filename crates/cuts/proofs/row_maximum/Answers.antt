@@ -1,21 +1,21 @@
--- `row_maximum` meets its contract: before end e of the loop, `maximum` is the greatest score at the ends t to e - 1.
-use mathlib.Core.Path.{refl}
+-- `row_maximum` meets its contract: after as many ends from t on as the loop has seen, `maximum` is the greatest score at these ends.
+use Prim.Native.Nat.{ℕ, ◌*◌}
 use native.Mathlib.Omega.{arith}
+use borrow.Rule.Slice.PartMut.{mid_len}
+use Rattle.std.proofs.lemmas.Bool.Decides.{nat_tests}
 use Rattle.cuts.specs.Sums.{table_score}
 use Rattle.cuts.proofs.Greatest.{greatest-none, greatest-next, greatest-all}
+use Rattle.cuts.proofs.Steps.{column-at}
 use Rattle.cuts.proofs.row_maximum.Goals as goal
 
-pub loop-e-init : goal.loop-e-init
-loop-e-init c = (omega arith, omega arith, greatest-none)
+pub loop-score-init : goal.loop-score-init
+loop-score-init c = greatest-all greatest-none (omega arith)
 
-pub loop-e-preserved : goal.loop-e-preserved
+pub loop-score-preserved : goal.loop-score-preserved
 unfolding table_score
-loop-e-preserved c =
-    let i = c.loop-e.invariant in
-    elim c.if-maximum-score.branch [
-      | goal.then-maximum-score h ↦ (omega arith, omega arith, greatest-next i.2 i.0 refl (omega arith))
-      | goal.else-maximum-score h ↦ (omega arith, omega arith, greatest-next i.2 i.0 refl (omega arith))
-    ]
+loop-score-preserved c =
+    let p = column-at c.args.scores.now (c.args.t * 96) c.args.t c.args.ticks c.loop-score-test.true in
+    greatest-all (greatest-next c.loop-score.invariant (omega arith) p.1 (grind (arith, nat_tests))) (omega arith)
 
 pub returns : goal.returns
-returns c = greatest-all c.loop-e.invariant.2 (omega arith)
+returns c = greatest-all c.loop-score.invariant (omega (arith, mid_len {X = ℕ}))

@@ -3,5 +3,5 @@ use native.Mathlib.Omega.{arith}
 use Rattle.cuts.proofs.Maxima.{sum-of-rest}
 use Rattle.cuts.proofs.sum_from.Goals as goal
 
-pub returns-then-maximum-lt1 : goal.returns-then-maximum-lt1
-returns-then-maximum-lt1 c = let r = c.requires.row_known in sum-of-rest r.0 (omega arith) c.requires.in_table.3 r.1
+pub returns-then-maximum-eq0 : goal.returns-then-maximum-eq0
+returns-then-maximum-eq0 c = let r = c.requires.row_known in sum-of-rest r.0 (omega arith) c.requires.in_table.3 r.1

@@ -14,7 +14,7 @@ wide c = members-lt c.args.s (omega arith) (omega arith)
 
 pub returns : goal.returns
 returns c =
-    let fit : Words c.args.rows.now = record { at = λ i l. omega (arith, c.type_inv.rows i) } in
-    let one = words_more (wide (goal.at.returns c).Start) fit c.requires.0 c.requires.1 (words-none (wide (goal.at.returns c).Start) _) (omega arith) refl c.word.ensures c.discount_word-lower.ensures in
-    let two = words_more (wide (goal.at.returns c).Start) fit c.requires.0 c.requires.1 one (omega arith) refl c.word-2.ensures c.discount_word.ensures in
+    let fit : Words c.args.rows.now = record { at = λ i l. c.fits-rows i } in
+    let one = words_more (wide (goal.at.returns c).Start) fit c.told-rows c.requires (words-none (wide (goal.at.returns c).Start) _) (omega arith) refl c.word.ensures c.discount.ensures in
+    let two = words_more (wide (goal.at.returns c).Start) fit c.told-rows c.requires one (omega arith) refl c.word-2.ensures c.discount-2.ensures in
     words-done (wide (goal.at.returns c).Start) two refl

@@ -1,6 +1,7 @@
 -- `lanes::largest` meets its contract: the largest number in the lanes of a set's badges is the larger of those of its words.
 use Prim.Native.Nat.{◌^◌, ◌<◌}
 use native.Mathlib.Omega.{arith}
+use Rattle.std.proofs.lemmas.Bool.Decides.{nat_tests}
 use Rattle.sets.specs.Members.{capacity, members}
 use Rattle.sets.proofs.Pairs.{members-lt}
 use Rattle.innermost.proofs.CountedDegrees.{largest-none, largest-is}
@@ -14,10 +15,6 @@ pub returns-then-upper-eq0 : goal.returns-then-upper-eq0
 returns-then-upper-eq0 c =
     largest-is c.args.d (wide (goal.at.returns-then-upper-eq0 c).Start) c.word.ensures c.word-upper.ensures c.largest-low.ensures (largest-none _ c.if-upper-eq0.true) (omega arith)
 
-pub returns-then-low-high : goal.returns-then-low-high
-returns-then-low-high c =
-    largest-is c.args.d (wide (goal.at.returns-then-low-high c).Start) c.word.ensures c.word-upper.ensures c.largest-low.ensures c.largest-high.ensures (omega arith)
-
-pub returns-else-low-high : goal.returns-else-low-high
-returns-else-low-high c =
-    largest-is c.args.d (wide (goal.at.returns-else-low-high c).Start) c.word.ensures c.word-upper.ensures c.largest-low.ensures c.largest-high.ensures (omega arith)
+pub returns : goal.returns
+returns c =
+    largest-is c.args.d (wide (goal.at.returns c).Start) c.word.ensures c.word-upper.ensures c.largest-low.ensures c.largest.ensures (grind (arith, nat_tests))

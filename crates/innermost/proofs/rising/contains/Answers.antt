@@ -18,8 +18,10 @@ present : (s : ℕ) (b : Bool) → (s ≡ 0 → ⊥) → b ≡ (ltb 0 s and b)
 unfolding ◌and◌
 present s b f = rw (lt-ltb 0 s (omega arith))
 
-pub returns-then-is_empty : goal.returns-then-is_empty
-returns-then-is_empty c = none (members c.args.s) _ (eqb-true _ _ (sym c.is_empty.ensures ∙ c.if-is_empty.true))
+pub returns-then-not-is_empty : goal.returns-then-not-is_empty
+returns-then-not-is_empty c = c.is_subset.ensures ∙ present (members c.args.s) _ (eqb-false _ _ (sym c.is_empty.ensures ∙ c.if-not-is_empty.true))
 
-pub returns : goal.returns
-returns c = c.is_subset.ensures ∙ present (members c.args.s) _ (eqb-false _ _ (sym c.is_empty.ensures ∙ c.if-is_empty.false))
+pub returns-else-not-is_empty : goal.returns-else-not-is_empty
+returns-else-not-is_empty c =
+    let t = c.if-not-is_empty.false in
+    rw t (none (members c.args.s) _ (eqb-true _ _ (sym c.is_empty.ensures ∙ t)))

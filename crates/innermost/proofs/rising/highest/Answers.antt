@@ -2,6 +2,7 @@
 use mathlib.Core.Path.{sym, ◌∙◌}
 use Prim.Native.Nat.{◌^◌, ◌<◌}
 use native.Mathlib.Omega.{arith}
+use Rattle.std.proofs.lemmas.Bool.Decides.{nat_tests}
 use Rattle.sets.specs.Words.{from_words}
 use Rattle.sets.specs.Members.{capacity, members}
 use Rattle.sets.proofs.Pairs.{members-lt}
@@ -22,7 +23,7 @@ pub returns-then-stop-above : goal.returns-then-stop-above
 unfolding from_words
 returns-then-stop-above c =
     let a = c.args in
-    climbed-none (transposed (graph a.rows.now) (members a.base)) (members a.base) (members a.query) a.above a.most (wide (goal.at.returns-then-stop-above c).Start) c.capped-stop.ensures c.if-stop-above.true
+    climbed-none (transposed (graph a.rows.now) (members a.base)) (members a.base) (members a.query) a.above a.most (wide (goal.at.returns-then-stop-above c).Start) (grind (arith, nat_tests)) c.if-stop-above.true
 
 pub climb-requires : goal.climb-requires
 climb-requires c =
@@ -31,4 +32,4 @@ climb-requires c =
 pub returns : goal.returns
 returns c =
     let a = c.args in
-    climbed-all (transposed (graph a.rows.now) (members a.base)) (members a.base) (members a.query) a.above a.most (wide (goal.at.returns c).Start) c.capped-stop.ensures c.climb.ensures
+    climbed-all (transposed (graph a.rows.now) (members a.base)) (members a.base) (members a.query) a.above a.most (wide (goal.at.returns c).Start) (grind (arith, nat_tests)) c.climb.ensures

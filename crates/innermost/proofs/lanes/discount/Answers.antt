@@ -1,12 +1,12 @@
--- `lanes::discount_set` meets its contract: each side is worked on, and no badge is on the upper side where nobody is left in the upper word.
+-- `lanes::discount` meets its contract: each side is worked on, and no badge is on the upper side where nobody is left in the upper word.
 use mathlib.Core.Path.{sym, ◌∙◌}
 use Prim.Native.Nat.{◌^◌, ◌<◌}
 use native.Mathlib.Omega.{arith}
 use Rattle.sets.specs.Members.{capacity, members}
 use Rattle.sets.proofs.Pairs.{members-lt}
 use Rattle.innermost.proofs.CountedDegrees.{sides-raised}
-use Rattle.innermost.proofs.lanes.discount_set.Goals as goal
-use Rattle.innermost.proofs.lanes.discount_set.Goals.{Start}
+use Rattle.innermost.proofs.lanes.discount.Goals as goal
+use Rattle.innermost.proofs.lanes.discount.Goals.{Start}
 
 wide : (c : goal.Start) → members c.args.left < 2 ^ capacity
 wide c = members-lt c.args.left (omega arith) (omega arith)

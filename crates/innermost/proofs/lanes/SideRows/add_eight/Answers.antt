@@ -1,7 +1,7 @@
--- `lanes::add_eight_rows` meets its contract: eight rows are taken, and added.
+-- `lanes::SideRows::add_eight` meets its contract: eight rows are taken, and added.
 use mathlib.Core.Path.{refl}
 use Rattle.innermost.proofs.CountedLanes.{adds-eight}
-use Rattle.innermost.proofs.lanes.add_eight_rows.Goals as goal
+use Rattle.innermost.proofs.lanes.SideRows.add_eight.Goals as goal
 
 pub returns : goal.returns
 returns c =
