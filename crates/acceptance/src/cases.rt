@@ -4,7 +4,7 @@ use crate::answers::{
 };
 use groups::Thresholds;
 use reference::{
-    Day, FILLER, Judgement, MAX_WORDS, PATTERN, ROOM, best_plan, judge, listing, word_after,
+    Day, FILLER, Judgement, MAX_WORDS, PATTERN, ROOM, Span, best_plan, judge, listing, word_after,
 };
 use sets::BadgeSet;
 
@@ -93,7 +93,7 @@ pub(crate) fn writes(day: &Day) -> bool {
 }
 
 // Core numbers on a span. All badges are under review in this and the other calls on words.
-pub(crate) fn numbers(day: &Day, first: usize, last: usize) -> bool {
+pub(crate) fn numbers(day: &Day, span: Span) -> bool {
     let mut buffer = lent_bytes();
     let all = BadgeSet::full(day.badges);
     let got = groups::core_numbers(
@@ -101,11 +101,11 @@ pub(crate) fn numbers(day: &Day, first: usize, last: usize) -> bool {
         day.badges,
         day.ticks,
         all,
-        first,
-        last,
+        span.first,
+        span.last,
         &mut buffer,
     );
-    let wanted = reference::core_numbers(day, first, last);
+    let wanted = reference::core_numbers(day, span);
     writes_groups(got, Ok(wanted.len())) & holds(&buffer, wanted.as_slice())
 }
 

@@ -7,7 +7,9 @@ use crate::cases;
 use crate::long_logs::{chain, long_log};
 use groups::Thresholds;
 use records::MAX_TICKS;
-use reference::{Accepted, Day, FILLER, MAX_WORDS, Tally, best_plan, core_numbers, judge, report};
+use reference::{
+    Accepted, Day, FILLER, MAX_WORDS, Span, Tally, best_plan, core_numbers, judge, report,
+};
 use sets::{BadgeSet, CAPACITY, SET_WORDS, put_set};
 
 // The words of the largest day.
@@ -31,13 +33,16 @@ pub(crate) fn order_63() -> Tally {
         badges: 64,
         ticks: 96,
     };
+    let all_ticks = Span { first: 0, last: 95 };
     let orders: &[u8] = &[63; 64];
     let group: &[u8] =
         b"RH\x40\x60GR\x3f\x00\x5f\xff\xff\xff\xff\xff\xff\xff\xffED\x01\x00\x00\x00";
     let plan: &[u8] =
         b"PH\x40\x60\x01\x01\x00\x00\x00\x00\x00\x00\x00PT\x3f\x00\x5f\xff\xff\xff\xff\xff\xff\xff\xffED\x01\x00\x00\x00";
     let mut tally = Tally::default();
-    tally.add_case(cases::numbers(&day, 0, 95) & (core_numbers(&day, 0, 95).as_slice() == orders));
+    tally.add_case(
+        cases::numbers(&day, all_ticks) & (core_numbers(&day, all_ticks).as_slice() == orders),
+    );
     tally.add_case(cases::reports(&day) & (report(&day).as_slice() == group));
     tally.add_case(cases::plans(&day, 1, 1) & (best_plan(&day, 1, 1).as_slice() == plan));
     tally

@@ -1,6 +1,7 @@
 // Document 02's limit of the listing, which counts and prints each circle as a group: a report above 65,536 bytes is refused by 9. The second
 // implementation has no room for such reports. What the listing shows was worked out by hand from the rule of each log.
 ghost use Rattle.std.specs.Prelude.{◌≤◌};
+ghost use Rattle.acceptance.specs.declared.listings.TheConstants.{MOST_GROUPS};
 
 use crate::answers::{GroupAnswer, Refused, writes_groups};
 use crate::cases::lent_words;
@@ -9,6 +10,16 @@ use reference::{FILLER, Tally};
 
 // The room that the listing program lends for a report.
 const LISTING_ROOM: usize = 65536;
+
+// The most groups of a report in that room.
+const MOST_GROUPS: usize = 5040;
+
+// The answer for a report of so many groups: a header, 13 bytes for each group, and an end.
+fn report_of(groups: usize) -> Result<usize, Refused>
+    requires { groups ≤ MOST_GROUPS }
+{
+    Ok(4 + 13 * groups + 6)
+}
 
 // Whether the lines from a place on, as many as 80 bytes hold, are these.
 fn shows(got: GroupAnswer, report: &[u8], from: usize, wanted: &[u8]) -> bool {
@@ -19,7 +30,7 @@ fn shows(got: GroupAnswer, report: &[u8], from: usize, wanted: &[u8]) -> bool {
 
 // Whether the report of a log is answered as wanted, and its listing has so many lines after the first, and begins and ends with some lines.
 fn lists(log: &[u8], wanted: Result<usize, Refused>, lines: usize, begin: &[u8], end: &[u8]) -> bool
-    requires { lines ≤ 5040 }
+    requires { lines ≤ MOST_GROUPS }
 {
     let mut words = lent_words();
     let mut report = [FILLER; LISTING_ROOM];
@@ -37,7 +48,7 @@ pub(crate) fn edge() -> Tally {
     let mut tally = Tally::default();
     tally.add_case(lists(
         &long_log(64, 96, 5888, |k| round(k, 2)),
-        Ok(10 + 13 * 5040),
+        report_of(5040),
         5040,
         b"badges 64 ticks 96 groups 5040\norder 3 ticks 0 to 0 badges 0 1 2 3 4 5 6 7\n",
         b"order 1 ticks 89 to 91 badges 55 63\n",
@@ -54,7 +65,7 @@ pub(crate) fn edge() -> Tally {
     ));
     tally.add_case(lists(
         &long_log(64, 96, 6144, |k| round(k, 0)),
-        Ok(10 + 13 * 3072),
+        report_of(3072),
         3072,
         b"badges 64 ticks 96 groups 3072\norder 1 ticks 0 to 0 badges 0 1\n",
         b"order 1 ticks 95 to 95 badges 55 63\n",

@@ -1,17 +1,7 @@
 // Random cases, each from a random log. Calls on words get the words of its day.
-ghost use Rattle.std.specs.Prelude.{◌-◌, ◌≤◌};
-
 use crate::cases;
 use crate::cases::{day_of, lent_words};
 use reference::{Day, Random, SEED, Size, Tally, judge, random_log};
-
-// A random span of T ticks: the first tick and the last.
-fn draw_span(random: &mut Random, ticks: usize) -> (usize, usize)
-    ensures { result.0 ≤ ticks - 1 }
-{
-    let first = random.below(ticks);
-    (first, first + random.below(ticks - first))
-}
 
 // A query of two of n badges, or one, or now and then none.
 fn draw_query(random: &mut Random, n: usize) -> u64 {
@@ -26,15 +16,14 @@ fn draw_query(random: &mut Random, n: usize) -> u64 {
 
 // Core numbers on a random span.
 pub(crate) fn numbers(day: &Day, mut random: Random) -> bool {
-    let (first, last) = draw_span(&mut random, day.ticks);
-    cases::numbers(day, first, last)
+    cases::numbers(day, random.span(day.ticks))
 }
 
 // A plan for a random query, of as many parts as the first tick of a random span counts from one.
 pub(crate) fn plans(day: &Day, mut random: Random) -> bool {
-    let (first, _) = draw_span(&mut random, day.ticks);
+    let span = random.span(day.ticks);
     let query = draw_query(&mut random, day.badges);
-    cases::plans(day, query, first + 1)
+    cases::plans(day, query, span.first + 1)
 }
 
 // Whether a case is right on the words of a log's day. What read answers is tried by a family of its own.

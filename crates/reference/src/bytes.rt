@@ -2,6 +2,7 @@
 ghost use Rattle.std.specs.Prelude.{◌≤◌, length};
 ghost use Rattle.reference.specs.declared.bytes.TheConstants.{ROOM};
 
+use crate::day::Span;
 use arrayvec::ArrayVec;
 
 // How many bytes there is room for.
@@ -38,7 +39,7 @@ pub struct Bytes {
 
 impl Bytes {
     // No bytes.
-    pub fn new() -> Bytes {
+    pub(crate) fn new() -> Bytes {
         Bytes {
             items: ArrayVec::new(),
         }
@@ -93,8 +94,8 @@ impl Bytes {
     }
 
     // The record of a contact.
-    pub(crate) fn put_contact(&mut self, a: usize, b: usize, first: usize, last: usize) {
-        self.put_record(CT, &[a, b, first, last]);
+    pub(crate) fn put_contact(&mut self, a: usize, b: usize, span: Span) {
+        self.put_record(CT, &[a, b, span.first, span.last]);
     }
 
     // The record of a group or a part: its order, its span, and its members in eight bytes. The header of a plan is laid out in the same way.

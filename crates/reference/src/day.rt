@@ -2,6 +2,13 @@
 // which there are none here.
 use crate::bits::has;
 
+// The ticks from one to another, with both.
+#[derive(Clone, Copy, PartialEq)]
+pub struct Span {
+    pub first: usize,
+    pub last: usize,
+}
+
 // The words of n badges in T ticks.
 #[derive(Clone, Copy)]
 pub struct Day<'a> {

@@ -20,7 +20,7 @@ mod tidying;
 mod words;
 
 pub use bytes::{Bytes, FILLER, ROOM};
-pub use day::Day;
+pub use day::{Day, Span};
 pub use judging::{Accepted, Judgement, Refusal, Why, judge};
 pub use limits::MAX_WORDS;
 pub use lines::{Text, listing};

@@ -2,7 +2,7 @@
 // left then are the core of order k.
 use crate::bits::{all, has, size, with, without};
 use crate::bytes::Bytes;
-use crate::day::Day;
+use crate::day::{Day, Span};
 use crate::limits::MAX_BADGES;
 use std::array;
 
@@ -17,12 +17,12 @@ pub(crate) struct Core {
 }
 
 // The badges in contact with u in every tick of a span.
-fn row(day: &Day, first: usize, last: usize, u: usize) -> u64 {
-    (first..=last).fold(all(day.badges), |set, t| set & day.contacts_of(t, u))
+fn row(day: &Day, span: Span, u: usize) -> u64 {
+    (span.first..=span.last).fold(all(day.badges), |set, t| set & day.contacts_of(t, u))
 }
 
-pub(crate) fn rows(day: &Day, first: usize, last: usize) -> Rows {
-    array::from_fn(|u| row(day, first, last, u))
+pub(crate) fn rows(day: &Day, span: Span) -> Rows {
+    array::from_fn(|u| row(day, span, u))
 }
 
 // The first badge left whose degree is below k.
@@ -32,7 +32,8 @@ fn low_badge(rows: &Rows, left: u64, k: usize) -> Option<usize> {
         .position(|(u, row)| has(left, u) && size(*row & left) < k)
 }
 
-// The core of order k among n badges, none where there is no such core.
+// The core of order k among n badges, none where there is no such core. Each turn drops a badge, so that a `for` over as many turns as there are
+// badges ends by itself, where a `while let` would need a measure.
 pub(crate) fn core_of(rows: &Rows, n: usize, k: usize) -> u64 {
     let mut left = all(n);
     for _ in 0..MAX_BADGES {
@@ -60,8 +61,8 @@ pub(crate) fn highest(rows: &Rows, n: usize, query: u64) -> Core {
 }
 
 // The core numbers on a span of the day: a badge's is the largest order of a core that contains the badge.
-pub fn core_numbers(day: &Day, first: usize, last: usize) -> Bytes {
-    let rows = rows(day, first, last);
+pub fn core_numbers(day: &Day, span: Span) -> Bytes {
+    let rows = rows(day, span);
     let mut numbers = Bytes::new();
     for u in 0..day.badges {
         numbers.put_number(highest(&rows, day.badges, with(0, u)).order);

@@ -2,7 +2,7 @@
 // each tick that it has, and with the last one.
 use crate::bits::has;
 use crate::bytes::{Bytes, PH, PT};
-use crate::day::Day;
+use crate::day::{Day, Span};
 use crate::peeling::{highest, rows};
 
 // How many of a day's first ticks a cutting may have: as many as are before the last of the longest day that is planned here.
@@ -24,7 +24,8 @@ impl Plan {
     // The part that ends with a tick. No count comes near 2^64.
     fn put_part(&mut self, day: &Day, query: u64, last: usize) {
         let first = self.next;
-        let core = highest(&rows(day, first, last), day.badges, query);
+        let span = Span { first, last };
+        let core = highest(&rows(day, span), day.badges, query);
         self.bytes
             .put_core(PT, &[core.order, first, last], core.members);
         self.next = last.saturating_add(1);

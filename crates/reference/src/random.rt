@@ -2,6 +2,8 @@
 ghost use Rattle.std.specs.Prelude.{◌≡◌, ◌-◌, ◌≤◌};
 ghost use Rattle.reference.specs.Random.{xorshift, below};
 
+use crate::day::Span;
+
 // Where each family that draws begins.
 pub const SEED: u64 = 0x2545_f491_4f6c_dd1d;
 
@@ -34,5 +36,14 @@ impl Random {
             return 0;
         }
         (self.state >> 16) as usize % bound
+    }
+
+    // Draws a span of T ticks: the first, and then how many more.
+    pub fn span(&mut self, ticks: usize) -> Span
+        ensures { result.first ≤ ticks - 1 }
+    {
+        let first = self.below(ticks);
+        let last = first + self.below(ticks - first);
+        Span { first, last }
     }
 }

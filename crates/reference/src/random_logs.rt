@@ -33,9 +33,8 @@ fn other_badge(a: usize, b: usize) -> usize {
 fn put_contact(log: &mut Bytes, random: &mut Random, n: usize, ticks: usize) {
     let a = random.below(n);
     let b = random.below(n);
-    let first = random.below(ticks);
-    let last = first + random.below(ticks - first);
-    log.put_contact(a, other_badge(a, b), first, last);
+    let span = random.span(ticks);
+    log.put_contact(a, other_badge(a, b), span);
 }
 
 // A random log that is whole. One badge alone has no contacts.

@@ -2,44 +2,45 @@
 use crate::bits::has;
 use crate::bytes::{Bytes, CORE_BYTES, GR, RH};
 use crate::circles::circle_of;
-use crate::day::Day;
+use crate::day::{Day, Span};
 use crate::limits::MAX_BADGES;
 use crate::peeling::{Core, Rows, core_of, highest, rows};
 
 // Whether some other span of the day that contains one has a core of some order.
-fn surpassed(day: &Day, first: usize, last: usize, order: usize) -> bool {
-    (0..=first).any(|from| {
-        (last..day.ticks).any(|to| {
-            (from != first || to != last) && core_of(&rows(day, from, to), day.badges, order) != 0
+fn surpassed(day: &Day, span: Span, order: usize) -> bool {
+    (0..=span.first).any(|first| {
+        (span.last..day.ticks).any(|last| {
+            let longer = Span { first, last };
+            longer != span && core_of(&rows(day, longer), day.badges, order) != 0
         })
     })
 }
 
 // Puts a core on a span into a report: a record for each of its circles, by smallest member.
-fn put_circles(report: &mut Bytes, rows: &Rows, core: Core, first: usize, last: usize) {
+fn put_circles(report: &mut Bytes, rows: &Rows, core: Core, span: Span) {
     let mut left = core.members;
     for u in 0..MAX_BADGES {
         if has(left, u) {
             let circle = circle_of(rows, core.members, u);
-            report.put_core(GR, &[core.order, first, last], circle);
+            report.put_core(GR, &[core.order, span.first, span.last], circle);
             left &= !circle;
         }
     }
 }
 
 // Puts the group on a span into a report, if there is one.
-fn put_group(report: &mut Bytes, day: &Day, first: usize, last: usize) {
-    let rows = rows(day, first, last);
+fn put_group(report: &mut Bytes, day: &Day, span: Span) {
+    let rows = rows(day, span);
     let core = highest(&rows, day.badges, 0);
-    if core.order != 0 && !surpassed(day, first, last, core.order) {
-        put_circles(report, &rows, core, first, last);
+    if core.order != 0 && !surpassed(day, span, core.order) {
+        put_circles(report, &rows, core, span);
     }
 }
 
 // Puts the groups on the spans that begin with a tick into a report.
 fn put_groups_from(report: &mut Bytes, day: &Day, first: usize) {
     for last in first..day.ticks {
-        put_group(report, day, first, last);
+        put_group(report, day, Span { first, last });
     }
 }
 

@@ -1,22 +1,23 @@
 // The tidy log of a day, found slowly: every pair is looked up in every tick.
 use crate::bytes::{BH, Bytes, CONTACT_BYTES};
-use crate::day::Day;
+use crate::day::{Day, Span};
 
-// The last tick of the run of contact of badges u and v that begins with a tick, if one does.
-fn run_from(day: &Day, u: usize, v: usize, first: usize) -> Option<usize> {
+// The run of contact of badges u and v that begins with a tick, if one does.
+fn run_from(day: &Day, u: usize, v: usize, first: usize) -> Option<Span> {
     if 0 < first && day.in_contact(first - 1, u, v) {
         return None;
     }
     (first..day.ticks)
         .take_while(|t| day.in_contact(*t, u, v))
         .last()
+        .map(|last| Span { first, last })
 }
 
 // Puts the runs of badges u and v into a log.
 fn put_pair(log: &mut Bytes, day: &Day, u: usize, v: usize) {
     for first in 0..day.ticks {
-        if let Some(last) = run_from(day, u, v, first) {
-            log.put_contact(u, v, first, last);
+        if let Some(run) = run_from(day, u, v, first) {
+            log.put_contact(u, v, run);
         }
     }
 }
