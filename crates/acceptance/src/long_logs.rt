@@ -1,6 +1,4 @@
 // Logs of thousands of contacts, each made by a rule.
-ghost use Rattle.std.specs.Prelude.{◌≡◌, length};
-
 use arrayvec::ArrayVec;
 
 // The bytes of a log of 8,001 contacts, one more than a log may have.

@@ -19,7 +19,7 @@ pub(crate) fn numbers(day: &Day, mut random: Random) -> bool {
     cases::numbers(day, random.span(day.ticks))
 }
 
-// A plan for a random query, of as many parts as the first tick of a random span counts from one.
+// A plan for a random query, of one part more than the first tick of a random span.
 pub(crate) fn plans(day: &Day, mut random: Random) -> bool {
     let span = random.span(day.ticks);
     let query = draw_query(&mut random, day.badges);

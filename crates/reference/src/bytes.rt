@@ -26,10 +26,17 @@ pub(crate) const PH: &[u8] = b"PH";
 
 pub(crate) const PT: &[u8] = b"PT";
 
-// How many bytes the record of a contact has, and that of a group or a part.
+// How many bytes the header of a log or a report has, the record of a contact, and that of a group or a part.
+pub(crate) const HEADER_BYTES: usize = 4;
+
 pub(crate) const CONTACT_BYTES: usize = 6;
 
 pub(crate) const CORE_BYTES: usize = 13;
+
+// The bytes from a position on; none past the end.
+pub(crate) fn rest_of(bytes: &[u8], at: usize) -> &[u8] {
+    bytes.get(at..).unwrap_or(&[])
+}
 
 // Bytes of a log, a report or a plan. What finds no room is left out.
 #[derive(Drop)]

@@ -4,11 +4,8 @@ ghost use Rattle.std.specs.Prelude.{◌≤◌, IfOk};
 ghost use Rattle.reference.specs.Verdicts.{Known, Judged};
 ghost use Rattle.reference.specs.declared.limits.TheConstants.{MAX_CONTACTS};
 
-use crate::bytes::CONTACT_BYTES;
+use crate::bytes::{CONTACT_BYTES, HEADER_BYTES, rest_of};
 use crate::limits::{MAX_BADGES, MAX_CONTACTS, MAX_TICKS};
-
-// How many bytes the header of a log or a report has.
-pub(crate) const HEADER_BYTES: usize = 4;
 
 // An accepted log: n badges, T ticks and so many contacts.
 #[derive(Clone, Copy, PartialEq)]
@@ -37,18 +34,18 @@ pub enum Why {
     TrailingBytes = 7,
 }
 
-// A refused log, and where.
-#[derive(Clone, Copy)]
-pub struct Refusal {
-    pub why: Why,
-    pub offset: usize,
-}
-
 impl Why {
     // The refusal of a log for this, at an offset.
     fn at(self, offset: usize) -> Refusal {
         Refusal { why: self, offset }
     }
+}
+
+// A refused log, and where.
+#[derive(Clone, Copy)]
+pub struct Refusal {
+    pub why: Why,
+    pub offset: usize,
 }
 
 impl Refusal {
@@ -89,11 +86,6 @@ fn is_contact(record: &[u8], n: u8, ticks: u8) -> bool {
         }
         _ => false,
     }
-}
-
-// The bytes of a log or a report from a position on.
-pub(crate) fn rest_of(bytes: &[u8], at: usize) -> &[u8] {
-    bytes.get(at..).unwrap_or(&[])
 }
 
 // How many contacts follow the header before anything else: no more than a log may have.

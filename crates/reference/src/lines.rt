@@ -1,6 +1,6 @@
 // The listing of a log as text, from what judging it came to and the bytes of its report.
-use crate::bytes::{CORE_BYTES, ROOM};
-use crate::judging::{Accepted, HEADER_BYTES, Judgement, rest_of};
+use crate::bytes::{CORE_BYTES, HEADER_BYTES, ROOM, rest_of};
+use crate::judging::{Accepted, Judgement};
 use crate::limits::MAX_BADGES;
 use arrayvec::ArrayString;
 use std::fmt;

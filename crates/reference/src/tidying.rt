@@ -24,10 +24,8 @@ fn put_pair(log: &mut Bytes, day: &Day, u: usize, v: usize) {
 
 // Puts the runs of badge u and each larger one into a log.
 fn put_badge(log: &mut Bytes, day: &Day, u: usize) {
-    for v in u..day.badges {
-        if u < v {
-            put_pair(log, day, u, v);
-        }
+    for v in (u..day.badges).skip(1) {
+        put_pair(log, day, u, v);
     }
 }
 

@@ -4,8 +4,8 @@ ghost use Rattle.reference.specs.Verdicts.{pattern};
 ghost use Rattle.reference.specs.declared.limits.TheConstants.{MAX_WORDS};
 
 use crate::bits::with;
-use crate::bytes::CONTACT_BYTES;
-use crate::judging::{HEADER_BYTES, Judgement, rest_of};
+use crate::bytes::{CONTACT_BYTES, HEADER_BYTES, rest_of};
+use crate::judging::Judgement;
 use crate::limits::MAX_WORDS;
 
 // What each word holds before a call.
