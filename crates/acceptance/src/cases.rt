@@ -1,50 +1,54 @@
 // A case of each call: the answer, and every word and byte that was lent, against the second implementation.
-ghost use Rattle.std.specs.Prelude.{◌≡◌, length};
-
-use crate::answers::{reads_as, writes_groups, writes_log};
-use check::same;
+use crate::answers::{
+    GroupAnswer, Refused, Wanted, answer_of, bytes_of, reads_as, writes_groups, writes_log,
+};
 use groups::Thresholds;
 use reference::{
-    Bytes, FILLER, MAX_WORDS, PATTERN, ROOM, Verdict, best_plan, judge, listing, word_after,
+    Day, FILLER, Judgement, MAX_WORDS, PATTERN, ROOM, Span, best_plan, judge, listing, word_after,
 };
 use sets::BadgeSet;
 
 // A buffer as it is before a call.
-fn lent_bytes() -> [u8; ROOM]
-    ensures { 4096 ≡ length result }
-{
+fn lent_bytes() -> [u8; ROOM] {
     [FILLER; ROOM]
 }
 
 // Words as they are before a call.
-pub(crate) fn lent_words() -> [u64; MAX_WORDS]
-    ensures { 12288 ≡ length result }
-{
+pub(crate) fn lent_words() -> [u64; MAX_WORDS] {
     [PATTERN; MAX_WORDS]
 }
 
 // Whether words are as a call leaves them that reads a log.
-fn hold(words: &[u64], log: &[u8], verdict: Verdict) -> bool {
-    for i in 0..words.len() {
-        if words[i] != word_after(log, verdict, i) {
-            return false;
-        }
-    }
-    true
+fn hold(words: &[u64], log: &[u8], judged: Judgement) -> bool {
+    words
+        .iter()
+        .enumerate()
+        .all(|(i, word)| *word == word_after(log, judged, i))
 }
 
 // Whether a buffer holds some bytes in front, and else what it held before.
-fn holds(buffer: &[u8], wanted: Bytes) -> bool {
-    let bytes = wanted.bytes;
-    same(buffer, &bytes)
+fn holds(buffer: &[u8], wanted: &[u8]) -> bool {
+    buffer
+        .strip_prefix(wanted)
+        .is_some_and(|rest| rest.iter().all(|byte| *byte == FILLER))
+}
+
+// The day of a log that words were read from.
+pub(crate) fn day_of<'a>(words: &'a [u64], judged: Judgement) -> Result<Day<'a>, Refused> {
+    let log = judged?;
+    Ok(Day {
+        words,
+        badges: log.badges,
+        ticks: log.ticks,
+    })
 }
 
 // Read.
 pub(crate) fn reads(log: &[u8]) -> bool {
     let mut words = lent_words();
     let got = logs::read(log, &mut words);
-    let wanted = judge(log);
-    reads_as(got, wanted) & hold(&words, log, wanted)
+    let judged = judge(log);
+    reads_as(got, judged) & hold(&words, log, judged)
 }
 
 // Tidy.
@@ -52,17 +56,18 @@ pub(crate) fn tidies(log: &[u8]) -> bool {
     let mut words = lent_words();
     let mut buffer = lent_bytes();
     let got = logs::tidy(log, &mut words, &mut buffer);
-    let day = judge(log);
-    let left: &[u64] = &words;
-    let wanted = reference::tidy_log(left, day.badges, day.ticks);
-    writes_log(got, day, wanted.len) & hold(left, log, day) & holds(&buffer, wanted)
+    let judged = judge(log);
+    let wanted: Wanted = day_of(&words, judged).map(|day| reference::tidy_log(&day));
+    writes_log(got, answer_of(&wanted))
+        & hold(&words, log, judged)
+        & holds(&buffer, bytes_of(&wanted))
 }
 
 // The text of a report that was prepared with an answer.
-fn shows(got: groups::Written, report: &[u8], wanted: Bytes) -> bool {
+fn shows(got: GroupAnswer, report: &[u8], wanted: &[u8]) -> bool {
     let mut buffer = lent_bytes();
     let piece = text::lines(got, report, 0, &mut buffer);
-    (piece.bytes == wanted.len) & holds(&buffer, wanted)
+    (piece.bytes == wanted.len()) & holds(&buffer, wanted)
 }
 
 // The listing: the report that it begins with, and the whole text.
@@ -70,51 +75,64 @@ pub(crate) fn lists(log: &[u8]) -> bool {
     let mut words = lent_words();
     let mut buffer = lent_bytes();
     let got = text::prepare(log, &mut words, &mut buffer);
-    let day = judge(log);
-    let left: &[u64] = &words;
-    let report: &[u8] = &buffer;
-    let wanted = reference::report(left, day.badges, day.ticks);
-    writes_groups(got, day, wanted.len)
-        & hold(left, log, day)
-        & holds(report, wanted)
-        & shows(got, report, listing(day, wanted))
+    let judged = judge(log);
+    let wanted: Wanted = day_of(&words, judged).map(|day| reference::report(&day));
+    let text = listing(judged, bytes_of(&wanted));
+    writes_groups(got, answer_of(&wanted))
+        & hold(&words, log, judged)
+        & holds(&buffer, bytes_of(&wanted))
+        & text.is_ok_and(|text| shows(got, &buffer, text.as_str().as_bytes()))
 }
 
-// Write. The verdict on the log that words were read from goes with each call on them: it is no refusal.
-pub(crate) fn writes(words: &[u64], day: Verdict) -> bool {
+// Write.
+pub(crate) fn writes(day: &Day) -> bool {
     let mut buffer = lent_bytes();
-    let got = logs::write(words, day.badges, day.ticks, &mut buffer);
-    let wanted = reference::tidy_log(words, day.badges, day.ticks);
-    writes_log(got, day, wanted.len) & holds(&buffer, wanted)
+    let got = logs::write(day.words, day.badges, day.ticks, &mut buffer);
+    let wanted = reference::tidy_log(day);
+    writes_log(got, Ok(wanted.len())) & holds(&buffer, wanted.as_slice())
 }
 
 // Core numbers on a span. All badges are under review in this and the other calls on words.
-pub(crate) fn numbers(words: &[u64], day: Verdict, first: usize, last: usize) -> bool {
+pub(crate) fn numbers(day: &Day, span: Span) -> bool {
     let mut buffer = lent_bytes();
-    let n = day.badges;
-    let all = BadgeSet::full(n);
-    let got = groups::core_numbers(words, n, day.ticks, all, first, last, &mut buffer);
-    let wanted = reference::core_numbers(words, n, first, last);
-    writes_groups(got, day, wanted.len) & holds(&buffer, wanted)
+    let all = BadgeSet::full(day.badges);
+    let got = groups::core_numbers(
+        day.words,
+        day.badges,
+        day.ticks,
+        all,
+        span.first,
+        span.last,
+        &mut buffer,
+    );
+    let wanted = reference::core_numbers(day, span);
+    writes_groups(got, Ok(wanted.len())) & holds(&buffer, wanted.as_slice())
 }
 
 // The plain report.
-pub(crate) fn reports(words: &[u64], day: Verdict) -> bool {
+pub(crate) fn reports(day: &Day) -> bool {
     let mut buffer = lent_bytes();
-    let n = day.badges;
-    let all = BadgeSet::full(n);
-    let got = groups::report(words, n, day.ticks, all, Thresholds::PLAIN, &mut buffer);
-    let wanted = reference::report(words, n, day.ticks);
-    writes_groups(got, day, wanted.len) & holds(&buffer, wanted)
+    let all = BadgeSet::full(day.badges);
+    let plain = Thresholds::PLAIN;
+    let got = groups::report(day.words, day.badges, day.ticks, all, plain, &mut buffer);
+    let wanted = reference::report(day);
+    writes_groups(got, Ok(wanted.len())) & holds(&buffer, wanted.as_slice())
 }
 
 // Plan.
-pub(crate) fn plans(words: &[u64], day: Verdict, query: u64, parts: usize) -> bool {
+pub(crate) fn plans(day: &Day, query: u64, parts: usize) -> bool {
     let mut buffer = lent_bytes();
-    let n = day.badges;
     let set = BadgeSet::from_word(query);
-    let all = BadgeSet::full(n);
-    let got = groups::plan(words, n, day.ticks, all, set, parts, &mut buffer);
-    let wanted = best_plan(words, n, day.ticks, query, parts);
-    writes_groups(got, day, wanted.len) & holds(&buffer, wanted)
+    let all = BadgeSet::full(day.badges);
+    let got = groups::plan(
+        day.words,
+        day.badges,
+        day.ticks,
+        all,
+        set,
+        parts,
+        &mut buffer,
+    );
+    let wanted = best_plan(day, query, parts);
+    writes_groups(got, Ok(wanted.len())) & holds(&buffer, wanted.as_slice())
 }

@@ -11,8 +11,8 @@ mod listings;
 mod long_logs;
 mod random_cases;
 
-use random_cases::{Family, cases_of};
-use reference::{Size, Tally, print};
+use random_cases::{cases_of, on_day};
+use reference::{Random, Size, Tally};
 use std::io;
 
 // Small random days, and small random logs, of which some are damaged.
@@ -20,14 +20,12 @@ const SMALL_DAYS: Size = Size {
     badges: 8,
     ticks: 6,
     contacts: 60,
-    damage: 0,
+    damage: false,
 };
 
 const SMALL_LOGS: Size = Size {
-    badges: 8,
-    ticks: 6,
-    contacts: 60,
-    damage: 1,
+    damage: true,
+    ..SMALL_DAYS
 };
 
 // Days of up to full size with few contacts.
@@ -35,7 +33,7 @@ const LARGE: Size = Size {
     badges: 64,
     ticks: 96,
     contacts: 600,
-    damage: 0,
+    damage: false,
 };
 
 // Days of numbers with two digits.
@@ -43,7 +41,7 @@ const MIDDLE: Size = Size {
     badges: 24,
     ticks: 16,
     contacts: 100,
-    damage: 0,
+    damage: false,
 };
 
 // As many badges, and ticks of which every cutting is tried.
@@ -51,86 +49,103 @@ const SHORT: Size = Size {
     badges: 24,
     ticks: 7,
     contacts: 200,
-    damage: 0,
+    damage: false,
 };
 
-// Runs small random cases of a family, and some larger ones, and prints its line.
-fn run(
-    rt: &impl Print,
-    before: Tally,
-    name: &[u8],
-    family: Family,
-    small: Size,
-    larger: Size,
-) -> io::Result<Tally> {
-    let cases = cases_of(family, 500, small).plus(cases_of(family, 25, larger));
-    print(rt, before, name, cases)
+// Where lines go, and the cases of all families so far.
+#[derive(Drop)]
+struct Lines<'a, P: Print> {
+    rt: &'a P,
+    all: Tally,
 }
 
-fn named(rt: &impl Print, t: Tally) -> io::Result<Tally> {
-    let t = print(
-        rt,
-        t,
-        b"64 badges all in contact: order 63",
-        limits::order_63(),
-    )?;
-    let t = print(
-        rt,
-        t,
-        b"128 badges all in contact: order 127",
-        limits::order_127(),
-    )?;
-    let t = print(rt, t, b"T 96 with 128 badges", limits::largest_day())?;
-    let t = print(rt, t, b"n 129 or T 97: 3", limits::header())?;
-    let t = print(rt, t, b"8000 contacts pass", limits::contacts())?;
-    print(rt, t, b"65536 bytes are listed", listings::edge())
-}
+impl<'a, P: Print> Lines<'a, P> {
+    // Prints the line of a family.
+    fn print(&mut self, name: &str, family: Tally) -> io::Result<()> {
+        self.all.print(self.rt, name, family)
+    }
 
-fn random_logs(rt: &impl Print, t: Tally) -> io::Result<Tally> {
-    let t = run(rt, t, b"read: random logs", Family::Read, SMALL_LOGS, LARGE)?;
-    let t = run(rt, t, b"tidy: random logs", Family::Tidy, SMALL_LOGS, LARGE)?;
-    run(
-        rt,
-        t,
-        b"listing: random logs",
-        Family::List,
-        SMALL_LOGS,
-        MIDDLE,
-    )
-}
+    // Runs small random cases of a family, and some larger ones, and prints its line.
+    fn run<F: Fn(&[u8], Random) -> bool>(
+        &mut self,
+        name: &str,
+        case: F,
+        small: Size,
+        larger: Size,
+    ) -> io::Result<()>
+        requires { F.IsAlwaysCallable case }
+    {
+        let mut family = cases_of(&case, 500, small);
+        family.add(cases_of(&case, 25, larger));
+        self.print(name, family)
+    }
 
-fn random_days(rt: &impl Print, t: Tally) -> io::Result<Tally> {
-    let t = run(
-        rt,
-        t,
-        b"write: random days",
-        Family::Write,
-        SMALL_DAYS,
-        LARGE,
-    )?;
-    let t = run(
-        rt,
-        t,
-        b"core numbers: random days",
-        Family::CoreNumbers,
-        SMALL_DAYS,
-        LARGE,
-    )?;
-    let t = run(
-        rt,
-        t,
-        b"report: random days",
-        Family::Report,
-        SMALL_DAYS,
-        MIDDLE,
-    )?;
-    run(rt, t, b"plan: random days", Family::Plan, SMALL_DAYS, SHORT)
+    fn named(&mut self) -> io::Result<()> {
+        self.print("64 badges all in contact: order 63", limits::order_63())?;
+        self.print("128 badges all in contact: order 127", limits::order_127())?;
+        self.print("T 96 with 128 badges", limits::largest_day())?;
+        self.print("n 129 or T 97: 3", limits::header())?;
+        self.print("8000 contacts pass", limits::contacts())?;
+        self.print("65536 bytes are listed", listings::edge())
+    }
+
+    fn random_logs(&mut self) -> io::Result<()> {
+        self.run(
+            "read: random logs",
+            |log, _| cases::reads(log),
+            SMALL_LOGS,
+            LARGE,
+        )?;
+        self.run(
+            "tidy: random logs",
+            |log, _| cases::tidies(log),
+            SMALL_LOGS,
+            LARGE,
+        )?;
+        self.run(
+            "listing: random logs",
+            |log, _| cases::lists(log),
+            SMALL_LOGS,
+            MIDDLE,
+        )
+    }
+
+    fn random_days(&mut self) -> io::Result<()> {
+        self.run(
+            "write: random days",
+            |log, random| on_day(log, random, |day, _| cases::writes(day)),
+            SMALL_DAYS,
+            LARGE,
+        )?;
+        self.run(
+            "core numbers: random days",
+            |log, random| on_day(log, random, random_cases::numbers),
+            SMALL_DAYS,
+            LARGE,
+        )?;
+        self.run(
+            "report: random days",
+            |log, random| on_day(log, random, |day, _| cases::reports(day)),
+            SMALL_DAYS,
+            MIDDLE,
+        )?;
+        self.run(
+            "plan: random days",
+            |log, random| on_day(log, random, random_cases::plans),
+            SMALL_DAYS,
+            SHORT,
+        )
+    }
 }
 
 fn main(rt: HostRuntime) -> io::Result<()> {
-    let t = named(&rt, Tally::none())?;
-    let t = random_logs(&rt, t)?;
-    let t = random_days(&rt, t)?;
-    print(&rt, Tally::none(), b"all", t)?;
-    Ok(())
+    let mut lines = Lines {
+        rt: &rt,
+        all: Tally::default(),
+    };
+    lines.named()?;
+    lines.random_logs()?;
+    lines.random_days()?;
+    let all = lines.all;
+    lines.print("all", all)
 }

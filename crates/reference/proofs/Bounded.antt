@@ -2,12 +2,12 @@
 use Rattle.std.proofs.Common.{◌≡◌, ℕ, zero, suc, ◌/◌, ◌%◌, ◌^◌, ◌<◌, refl, arith}
 use Rattle.reference.specs.Random.{below}
 
-pub below-zero : (bound x : ℕ) → bound ≡ 0 → below bound x ≡ 0
+pub below_zero : (bound x : ℕ) → bound ≡ 0 → below bound x ≡ 0
 unfolding below
-below-zero zero x e = refl
-below-zero (suc b) x e = omega arith
+below_zero zero x e = refl
+below_zero (suc b) x e = omega arith
 
-pub below-bound : (bound x : ℕ) → 0 < bound → below bound x ≡ x / 2 ^ 16 % bound
+pub below_bound : (bound x : ℕ) → 0 < bound → below bound x ≡ x / 2 ^ 16 % bound
 unfolding below
-below-bound zero x h = omega arith
-below-bound (suc b) x h = refl
+below_bound zero x h = omega arith
+below_bound (suc b) x h = refl

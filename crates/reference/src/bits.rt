@@ -8,22 +8,20 @@ pub(crate) fn has(set: u64, v: usize) -> bool {
 
 // A set with badge v.
 pub(crate) fn with(set: u64, v: usize) -> u64 {
-    if v < MAX_BADGES {
-        return set | (1 << v);
-    }
-    set
+    if v < MAX_BADGES { set | (1 << v) } else { set }
+}
+
+// A set without badge v.
+pub(crate) fn without(set: u64, v: usize) -> u64 {
+    set & !with(0, v)
 }
 
 // How many badges a set has.
 pub(crate) fn size(set: u64) -> usize {
-    u64::count_ones(set) as usize
+    set.count_ones() as usize
 }
 
 // The set of all n badges.
 pub(crate) fn all(n: usize) -> u64 {
-    let mut set = 0;
-    for v in 0..n {
-        set = with(set, v);
-    }
-    set
+    (0..n).fold(0, with)
 }

@@ -1,5 +1,9 @@
-// Bytes that grow at their end, and the records that are spelled with them. They go in and come back by value.
-ghost use Rattle.std.specs.Prelude.{◌≡◌, ◌≤◌};
+// Bytes that grow at their end, and the records that are spelled with them.
+ghost use Rattle.std.specs.Prelude.{◌≤◌, length};
+ghost use Rattle.reference.specs.declared.bytes.TheConstants.{ROOM};
+
+use crate::day::Span;
+use arrayvec::ArrayVec;
 
 // How many bytes there is room for.
 pub const ROOM: usize = 4096;
@@ -7,84 +11,109 @@ pub const ROOM: usize = 4096;
 // What each byte of a buffer holds before a call.
 pub const FILLER: u8 = 0xa5;
 
-// The marks, each as the number of its two ASCII bytes, the first byte lowest.
-pub(crate) const BH: usize = 0x4842;
+// The marks.
+pub(crate) const BH: &[u8] = b"BH";
 
-pub(crate) const CT: usize = 0x5443;
+pub(crate) const CT: &[u8] = b"CT";
 
-pub(crate) const ED: usize = 0x4445;
+pub(crate) const ED: &[u8] = b"ED";
 
-pub(crate) const RH: usize = 0x4852;
+pub(crate) const RH: &[u8] = b"RH";
 
-pub(crate) const GR: usize = 0x5247;
+pub(crate) const GR: &[u8] = b"GR";
 
-pub(crate) const PH: usize = 0x4850;
+pub(crate) const PH: &[u8] = b"PH";
 
-pub(crate) const PT: usize = 0x5450;
+pub(crate) const PT: &[u8] = b"PT";
 
-// The first bytes of an array, each byte after which holds the filler. What finds no room is left out.
-#[derive(Clone, Copy)]
+// How many bytes the header of a log or a report has, the record of a contact, and that of a group or a part.
+pub(crate) const HEADER_BYTES: usize = 4;
+
+pub(crate) const CONTACT_BYTES: usize = 6;
+
+pub(crate) const CORE_BYTES: usize = 13;
+
+// The bytes from a position on; none past the end.
+pub(crate) fn rest_of(bytes: &[u8], at: usize) -> &[u8] {
+    bytes.get(at..).unwrap_or(&[])
+}
+
+// Bytes of a log, a report or a plan. What finds no room is left out.
+#[derive(Drop)]
 pub struct Bytes {
-    pub bytes: [u8; ROOM],
-    pub len: usize,
+    items: ArrayVec<u8, ROOM>,
 }
 
 impl Bytes {
     // No bytes.
-    pub(crate) fn none() -> Bytes
-        ensures { result.len ≡ 0 }
-    {
+    pub(crate) fn new() -> Bytes {
         Bytes {
-            bytes: [FILLER; ROOM],
-            len: 0,
+            items: ArrayVec::new(),
         }
     }
 
-    // One byte more: the lowest eight bits of a number.
-    pub(crate) fn with(self, value: usize) -> Bytes
-        ensures { result.len ≤ 4096 }
+    pub fn as_slice(&self) -> &[u8]
+        ensures { length result.now ≤ ROOM }
     {
-        let mut bytes = self.bytes;
-        let at = self.len;
-        if ROOM <= at {
-            return Bytes { bytes, len: ROOM };
-        }
-        bytes[at] = (value % 256) as u8;
-        Bytes { bytes, len: at + 1 }
+        self.items.as_slice()
     }
 
-    // The mark of a record, and the two bytes after it.
-    pub(crate) fn with_record(self, mark: usize, a: usize, b: usize) -> Bytes {
-        self.with(mark).with(mark / 256).with(a).with(b)
+    pub fn len(&self) -> usize
+        ensures { result ≤ ROOM }
+    {
+        self.items.len()
+    }
+
+    // Changes a byte, if there is one.
+    pub(crate) fn set(&mut self, at: usize, value: u8) {
+        if let Some(byte) = self.items.get_mut(at) {
+            *byte = value;
+        }
+    }
+
+    // Cuts the end off, or puts fillers after it, so that there are so many bytes.
+    pub(crate) fn resize(&mut self, len: usize) {
+        self.items.truncate(len);
+        for _ in self.items.len()..len {
+            self.put(FILLER);
+        }
+    }
+
+    fn put(&mut self, byte: u8) {
+        let _ = self.items.try_push(byte);
+    }
+
+    fn put_all(&mut self, bytes: &[u8]) {
+        let _ = self.items.try_extend_from_slice(bytes);
+    }
+
+    // The lowest eight bits of a number.
+    pub(crate) fn put_number(&mut self, number: usize) {
+        self.put((number % 256) as u8);
+    }
+
+    // The mark of a record, and fields of one byte each.
+    pub(crate) fn put_record(&mut self, mark: &[u8], fields: &[usize]) {
+        self.put_all(mark);
+        for field in fields {
+            self.put_number(*field);
+        }
     }
 
     // The record of a contact.
-    pub(crate) fn with_contact(self, a: usize, b: usize, first: usize, last: usize) -> Bytes {
-        self.with_record(CT, a, b).with(first).with(last)
+    pub(crate) fn put_contact(&mut self, a: usize, b: usize, span: Span) {
+        self.put_record(CT, &[a, b, span.first, span.last]);
     }
 
     // The record of a group or a part: its order, its span, and its members in eight bytes. The header of a plan is laid out in the same way.
-    pub(crate) fn with_core(
-        self,
-        mark: usize,
-        order: usize,
-        first: usize,
-        last: usize,
-        members: u64,
-    ) -> Bytes {
-        let set = members as usize;
-        let low = self.with_record(mark, order, first).with(last);
-        let low = low.with(set).with(set / 0x100).with(set / 0x1_0000);
-        let high = low.with(set / 0x100_0000).with(set / 0x1_0000_0000);
-        let high = high.with(set / 0x100_0000_0000);
-        let high = high.with(set / 0x1_0000_0000_0000);
-        high.with(set / 0x100_0000_0000_0000)
+    pub(crate) fn put_core(&mut self, mark: &[u8], fields: &[usize; 3], members: u64) {
+        self.put_record(mark, fields);
+        self.put_all(&members.to_le_bytes());
     }
 
-    // The end, with the number of records before it.
-    pub(crate) fn with_end(self, count: usize) -> Bytes
-        ensures { result.len ≤ 4096 }
-    {
-        self.with_record(ED, count, count / 256).with(0).with(0)
+    // The end, with the number of records before it in four bytes.
+    pub(crate) fn put_end(&mut self, count: usize) {
+        self.put_all(ED);
+        self.put_all(&count.to_le_bytes()[..4]);
     }
 }

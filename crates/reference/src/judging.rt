@@ -1,160 +1,137 @@
 // The judge of logs: record by record, each in document 01's order. The header has four bytes and every other record six, so record k after
 // the header starts at 4 + 6k.
-ghost use Rattle.std.specs.Prelude.{◌<◌, ◌≤◌};
-ghost use Rattle.reference.specs.Verdicts.{Judged};
+ghost use Rattle.std.specs.Prelude.{◌≤◌, IfOk};
+ghost use Rattle.reference.specs.Verdicts.{Known, Judged};
+ghost use Rattle.reference.specs.declared.limits.TheConstants.{MAX_CONTACTS};
 
-use crate::bytes::{BH, CT, ED};
+use crate::bytes::{CONTACT_BYTES, HEADER_BYTES, rest_of};
 use crate::limits::{MAX_BADGES, MAX_CONTACTS, MAX_TICKS};
-use crate::slices::byte_at;
-use std::num::wrapping_sub_usize;
 
-// What judging comes to. Number 0: a log of n badges, T ticks and so many contacts. Any other number: refused, at an offset, with no values.
-#[derive(Clone, Copy)]
-pub struct Verdict {
-    pub number: usize,
-    pub offset: usize,
+// An accepted log: n badges, T ticks and so many contacts.
+#[derive(Clone, Copy, PartialEq)]
+pub struct Accepted {
     pub badges: usize,
     pub ticks: usize,
     pub contacts: usize,
 }
 
-// A record: its mark as a number, the first byte lowest, and the four bytes after it.
+// Why a log is refused, each with its number.
 #[derive(Clone, Copy)]
-pub(crate) struct Record {
-    pub(crate) mark: usize,
-    pub(crate) a: usize,
-    pub(crate) b: usize,
-    pub(crate) c: usize,
-    pub(crate) d: usize,
+pub enum Why {
+    // The bytes end inside a record, or where one must start.
+    CutShort = 1,
+    // The mark is not BH for the first record, or not CT or ED later.
+    WrongMark = 2,
+    // n or T of the header outside its limits.
+    HeaderOutOfLimits = 3,
+    // Equal badges, a badge of n or more, first after last, or last of T or more.
+    InvalidContact = 4,
+    // A contact after as many as a log may have.
+    TooManyContacts = 5,
+    // The count of the end differs.
+    WrongCount = 6,
+    // Bytes follow the end.
+    TrailingBytes = 7,
 }
 
-// The record at a position. Past the end its bytes are 0.
-pub(crate) fn record_at(bytes: &[u8], at: usize) -> Record
-    requires { at ≤ 48004 }
-    ensures { (result.a < 256) × (result.b < 256) × (result.c < 256) × (result.d < 256) }
-{
-    Record {
-        mark: byte_at(bytes, at) + byte_at(bytes, at + 1) * 256,
-        a: byte_at(bytes, at + 2),
-        b: byte_at(bytes, at + 3),
-        c: byte_at(bytes, at + 4),
-        d: byte_at(bytes, at + 5),
+impl Why {
+    // The refusal of a log for this, at an offset.
+    fn at(self, offset: usize) -> Refusal {
+        Refusal { why: self, offset }
     }
 }
 
-// The number by which the header of n and T in a log of so many bytes is refused, 0 where it is not.
-fn judge_header(mark: usize, n: usize, ticks: usize, len: usize) -> usize
-    ensures { result ≤ 3 }
-{
-    if len < 2 {
-        return 1;
-    }
-    if mark != BH {
-        return 2;
-    }
-    if len < 4 {
-        return 1;
-    }
-    if (n == 0) | (MAX_BADGES < n) | (ticks == 0) | (MAX_TICKS < ticks) {
-        return 3;
-    }
-    0
+// A refused log, and where.
+#[derive(Clone, Copy)]
+pub struct Refusal {
+    pub why: Why,
+    pub offset: usize,
 }
 
-// Whether a record of so many bytes, or more, is a contact of two of n badges, a and b, in a span of T ticks, c to d.
-fn is_contact(r: Record, left: usize, n: usize, ticks: usize) -> bool {
-    (6 <= left)
-        & (r.mark == CT)
-        & (r.a != r.b)
-        & (r.a < n)
-        & (r.b < n)
-        & (r.c <= r.d)
-        & (r.d < ticks)
+impl Refusal {
+    // The number of the refusal.
+    pub fn number(self) -> usize
+        ensures { Known result }
+    {
+        self.why as usize
+    }
+}
+
+// What judging a log comes to.
+pub type Judgement = Result<Accepted, Refusal>;
+
+// Whether a number is above 0 and within a limit.
+fn in_limits(number: u8, limit: usize) -> bool {
+    0 < number && usize::from(number) <= limit
+}
+
+// n and T of the header that a log begins with.
+fn judge_header(log: &[u8]) -> Result<(u8, u8), Refusal> {
+    match log {
+        [] | [_] => Err(Why::CutShort.at(0)),
+        [b'B', b'H', n, ticks, ..] if in_limits(*n, MAX_BADGES) && in_limits(*ticks, MAX_TICKS) => {
+            Ok((*n, *ticks))
+        }
+        [b'B', b'H', _, _, ..] => Err(Why::HeaderOutOfLimits.at(0)),
+        [b'B', b'H', ..] => Err(Why::CutShort.at(0)),
+        _ => Err(Why::WrongMark.at(0)),
+    }
+}
+
+// Whether a record is a contact of two of n badges, a and b, in a span of T ticks.
+fn is_contact(record: &[u8], n: u8, ticks: u8) -> bool {
+    match record {
+        [b'C', b'T', a, b, first, last] => {
+            a != b && *a < n && *b < n && first <= last && *last < ticks
+        }
+        _ => false,
+    }
 }
 
 // How many contacts follow the header before anything else: no more than a log may have.
-fn count_contacts(log: &[u8], n: usize, ticks: usize) -> usize
-    ensures { result ≤ 8000 }
+fn count_contacts(log: &[u8], n: u8, ticks: u8) -> usize
+    ensures { result ≤ MAX_CONTACTS }
 {
-    for k in 0..MAX_CONTACTS {
-        let at = 4 + 6 * k;
-        let left = wrapping_sub_usize(log.len(), at);
-        if !is_contact(record_at(log, at), left, n, ticks) {
-            return k;
+    rest_of(log, HEADER_BYTES)
+        .chunks(CONTACT_BYTES)
+        .take(MAX_CONTACTS)
+        .take_while(|record| is_contact(record, n, ticks))
+        .count()
+}
+
+// Judges the record after so many contacts, which is no valid one or one too many: it has to be an end with their count, and the last.
+fn judge_end(log: &[u8], contacts: usize) -> Result<(), Refusal>
+    requires { contacts ≤ MAX_CONTACTS }
+{
+    let at = HEADER_BYTES + CONTACT_BYTES * contacts;
+    match rest_of(log, at) {
+        [] | [_] => Err(Why::CutShort.at(at)),
+        [b'C', b'T', ..] if contacts == MAX_CONTACTS => Err(Why::TooManyContacts.at(at)),
+        [b'C', b'T', _, _, _, _, ..] => Err(Why::InvalidContact.at(at)),
+        [b'E', b'D', a, b, c, d, after @ ..] => {
+            if u32::from_le_bytes([*a, *b, *c, *d]) as usize != contacts {
+                Err(Why::WrongCount.at(at))
+            } else if after.is_empty() {
+                Ok(())
+            } else {
+                Err(Why::TrailingBytes.at(at + CONTACT_BYTES))
+            }
         }
-    }
-    MAX_CONTACTS
-}
-
-// The number by which the record after them is refused, which is no such contact or one too many: 0 for an end with their count.
-fn judge_last(r: Record, left: usize, contacts: usize) -> usize
-    requires { (r.a < 256) × (r.b < 256) × (r.c < 256) × (r.d < 256) }
-    ensures { result ≤ 7 }
-{
-    if left < 2 {
-        return 1;
-    }
-    if (r.mark != CT) & (r.mark != ED) {
-        return 2;
-    }
-    if (r.mark == CT) & (contacts == MAX_CONTACTS) {
-        return 5;
-    }
-    if left < 6 {
-        return 1;
-    }
-    if r.mark == CT {
-        return 4;
-    }
-    if r.a + r.b * 256 + r.c * 65536 + r.d * 16777216 != contacts {
-        return 6;
-    }
-    if 6 < left {
-        return 7;
-    }
-    0
-}
-
-// The verdict by a number at an offset.
-fn refused(number: usize, offset: usize) -> Verdict
-    requires { number ≤ 7 }
-    ensures { Judged result.number result.badges result.ticks result.contacts }
-{
-    Verdict {
-        number,
-        offset,
-        badges: 0,
-        ticks: 0,
-        contacts: 0,
+        [b'C', b'T', ..] | [b'E', b'D', ..] => Err(Why::CutShort.at(at)),
+        _ => Err(Why::WrongMark.at(at)),
     }
 }
 
-// The whole log. The record after the contacts starts where a whole one ended, so that no fewer than 0 bytes are left.
-pub fn judge(log: &[u8]) -> Verdict
-    ensures { Judged result.number result.badges result.ticks result.contacts }
+// The whole log.
+pub fn judge(log: &[u8]) -> Judgement
+    ensures { IfOk result (λ log. Judged log.badges log.ticks log.contacts) }
 {
-    let header = record_at(log, 0);
-    let n = header.a;
-    let ticks = header.b;
-    let number = judge_header(header.mark, n, ticks, log.len());
-    if number != 0 {
-        return refused(number, 0);
-    }
+    let (n, ticks) = judge_header(log)?;
     let contacts = count_contacts(log, n, ticks);
-    let at = 4 + 6 * contacts;
-    let left = wrapping_sub_usize(log.len(), at);
-    let number = judge_last(record_at(log, at), left, contacts);
-    if number == 7 {
-        return refused(number, at + 6);
-    }
-    if number != 0 {
-        return refused(number, at);
-    }
-    Verdict {
-        number: 0,
-        offset: 0,
-        badges: n,
-        ticks,
+    judge_end(log, contacts)?;
+    Ok(Accepted {
+        badges: usize::from(n),
+        ticks: usize::from(ticks),
         contacts,
-    }
+    })
 }

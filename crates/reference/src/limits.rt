@@ -6,4 +6,4 @@ pub(crate) const MAX_TICKS: usize = 96;
 pub(crate) const MAX_CONTACTS: usize = 8000;
 
 // How many words the largest day has: two for each badge and tick.
-pub const MAX_WORDS: usize = 12288;
+pub const MAX_WORDS: usize = 2 * MAX_BADGES * MAX_TICKS;

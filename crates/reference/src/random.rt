@@ -2,10 +2,13 @@
 ghost use Rattle.std.specs.Prelude.{◌≡◌, ◌-◌, ◌≤◌};
 ghost use Rattle.reference.specs.Random.{xorshift, below};
 
+use crate::day::Span;
+
 // Where each family that draws begins.
 pub const SEED: u64 = 0x2545_f491_4f6c_dd1d;
 
 // The next number of the sequence.
+#[tactic(auto, unfolding(crate::specs::Random::xorshift, crate::specs::Random::mix_up, crate::specs::Random::mix_down))]
 fn next(x: u64) -> u64
     ensures { result ≡ xorshift x }
 {
@@ -14,26 +17,33 @@ fn next(x: u64) -> u64
     b ^ (b << 17)
 }
 
-// A number that was drawn, and the number of the sequence that it came from, where the next draw goes on.
+// A place in the sequence: the number that was drawn last. A copy draws the same numbers again.
 #[derive(Clone, Copy)]
-pub struct Drawn {
-    pub number: usize,
+pub struct Random {
     pub state: u64,
 }
 
-// The next number of the sequence, below a bound; 0 where the bound is 0.
-pub fn draw_from(state: u64, bound: usize) -> Drawn
-    ensures number { result.number ≡ below bound (xorshift state) }
-    ensures within { result.number ≤ bound - 1 }
-    ensures leaves { result.state ≡ xorshift state }
-{
-    let x = next(state);
-    if bound == 0 {
-        return Drawn {
-            number: 0,
-            state: x,
-        };
+impl Random {
+    // Draws the next number of the sequence, below a bound; 0 where the bound is 0.
+    #[tactic(auto, using(crate::proofs::Bounded::below_zero, crate::proofs::Bounded::below_bound))]
+    pub fn below(&mut self, bound: usize) -> usize
+        ensures number { result ≡ below bound (xorshift self.old.state) }
+        ensures within { result ≤ bound - 1 }
+        ensures leaves { self.new.state ≡ xorshift self.old.state }
+    {
+        self.state = next(self.state);
+        if bound == 0 {
+            return 0;
+        }
+        (self.state >> 16) as usize % bound
     }
-    let number = (x >> 16) as usize % bound;
-    Drawn { number, state: x }
+
+    // Draws a span of T ticks: the first, and then how many more.
+    pub fn span(&mut self, ticks: usize) -> Span
+        ensures { result.first ≤ ticks - 1 }
+    {
+        let first = self.below(ticks);
+        let last = first + self.below(ticks - first);
+        Span { first, last }
+    }
 }

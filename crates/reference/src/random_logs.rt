@@ -1,114 +1,72 @@
 // Random logs: pairs in either order, overlaps and repeats, and some of them damaged.
-ghost use Rattle.std.specs.Prelude.{◌≤◌};
-
 use crate::bytes::{BH, Bytes};
-use crate::random::draw_from;
-use std::num::{wrapping_add_usize, wrapping_sub_usize};
+use crate::random::Random;
 
-// Of how many badges and ticks random logs are at most, and how many contacts they have fewer than. With damage 1 some are damaged, with 0 none.
+// Of how many badges and ticks random logs are at most, how many contacts they have fewer than, and whether some are damaged.
 #[derive(Clone, Copy)]
 pub struct Size {
     pub badges: usize,
     pub ticks: usize,
     pub contacts: usize,
-    pub damage: usize,
+    pub damage: bool,
 }
 
-// A log that was drawn, and where the next draw goes on.
-#[derive(Clone, Copy)]
-pub struct RandomLog {
-    pub log: Bytes,
-    pub state: u64,
-}
+// Damage is done below this position, with a value below this one; and one time in so many it is a cut.
+const DAMAGE_END: usize = 1000;
+
+const DAMAGE_VALUES: usize = 8;
+
+const CUT_ONE_IN: usize = 8;
 
 // Another badge than a, where there are two: b, or one beside it.
 fn other_badge(a: usize, b: usize) -> usize {
     if a != b {
-        return b;
-    }
-    match b {
-        0 => 1,
-        _ => wrapping_sub_usize(b, 1),
+        b
+    } else if b == 0 {
+        1
+    } else {
+        b - 1
     }
 }
 
-// A log with the contact of two random badges in a random span.
-fn with_contact(before: RandomLog, n: usize, ticks: usize) -> RandomLog {
-    let a = draw_from(before.state, n);
-    let b = draw_from(a.state, n);
-    let first = draw_from(b.state, ticks);
-    let more = draw_from(first.state, ticks - first.number);
-    let other = other_badge(a.number, b.number);
-    let last = wrapping_add_usize(first.number, more.number);
-    let log = before.log;
-    RandomLog {
-        log: log.with_contact(a.number, other, first.number, last),
-        state: more.state,
-    }
+// Puts the contact of two random badges in a random span.
+fn put_contact(log: &mut Bytes, random: &mut Random, n: usize, ticks: usize) {
+    let a = random.below(n);
+    let b = random.below(n);
+    let span = random.span(ticks);
+    log.put_contact(a, other_badge(a, b), span);
 }
 
 // A random log that is whole. One badge alone has no contacts.
-fn whole_log(most: Size, state: u64) -> RandomLog
-    ensures { result.log.len ≤ 4096 }
-{
-    let n = draw_from(state, most.badges);
-    let t = draw_from(n.state, most.ticks);
-    let others = n.number;
-    let bound = match others {
-        0 => 0,
-        _ => most.contacts,
-    };
-    let contacts = draw_from(t.state, bound);
-    let badges = wrapping_add_usize(n.number, 1);
-    let ticks = wrapping_add_usize(t.number, 1);
-    let mut made = RandomLog {
-        log: Bytes::none().with_record(BH, badges, ticks),
-        state: contacts.state,
-    };
-    for _ in 0..contacts.number {
-        let longer = with_contact(made, badges, ticks);
-        made = longer;
+fn whole_log(random: &mut Random, most: Size) -> Bytes {
+    let badges = random.below(most.badges) + 1;
+    let ticks = random.below(most.ticks) + 1;
+    let contacts = random.below(if badges == 1 { 0 } else { most.contacts });
+    let mut log = Bytes::new();
+    log.put_record(BH, &[badges, ticks]);
+    for _ in 0..contacts {
+        put_contact(&mut log, random, badges, ticks);
     }
-    let log = made.log;
-    RandomLog {
-        log: log.with_end(contacts.number),
-        state: made.state,
+    log.put_end(contacts);
+    log
+}
+
+// Damages a log now and then: a byte is changed, or its end is cut off, or bytes follow it.
+fn damage(log: &mut Bytes, mut random: Random) {
+    let at = random.below(DAMAGE_END);
+    let value = random.below(DAMAGE_VALUES);
+    if random.below(CUT_ONE_IN) == 0 {
+        log.resize(at);
+    } else {
+        log.set(at, value as u8);
     }
 }
 
-// A log, now and then damaged: a byte is changed, or its end is cut off, or bytes follow it.
-fn damaged(log: Bytes, state: u64) -> Bytes
-    requires { log.len ≤ 4096 }
-    ensures { result.len ≤ 4096 }
-{
-    let at = draw_from(state, 1000);
-    let value = draw_from(at.state, 8);
-    let way = draw_from(value.state, 8);
-    let mut bytes = log.bytes;
-    let i = at.number;
-    bytes[i] = value.number as u8;
-    let cut = way.number;
-    match cut {
-        0 => Bytes { bytes, len: i },
-        _ => Bytes {
-            bytes,
-            len: log.len,
-        },
+// A random log. What is drawn for damage is drawn from a copy, so that logs of a size are the same with it and without.
+pub fn random_log(random: &mut Random, most: Size) -> Bytes {
+    let mut log = whole_log(random, most);
+    if most.damage {
+        damage(&mut log, *random);
     }
-}
-
-// A random log.
-pub fn random_log(most: Size, state: u64) -> RandomLog
-    ensures { result.log.len ≤ 4096 }
-{
-    let whole = whole_log(most, state);
-    let log = whole.log;
-    let damage = most.damage;
-    match damage {
-        0 => whole,
-        _ => RandomLog {
-            log: damaged(log, whole.state),
-            state: whole.state,
-        },
-    }
+    log
 }

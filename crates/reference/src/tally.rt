@@ -1,51 +1,51 @@
 // Counting cases, and printing the counts of a family.
-ghost use Rattle.std.specs.Prelude.{◌≡◌, IfOk};
+ghost use Rattle.std.specs.Prelude.{◌≡◌, OnOk, OnErr};
 ghost use Rattle.reference.specs.Tallies.{sum, misses};
 
-use std::io;
-use std::num::wrapping_add_u64;
+use std::{fmt, io};
 
 // How many cases were run, and how many of them came out wrong.
-#[derive(Clone, Copy)]
+#[derive(Clone, Copy, Default)]
 pub struct Tally {
     pub run: u64,
     pub wrong: u64,
 }
 
 impl Tally {
-    // No case.
-    pub fn none() -> Tally
-        ensures { (result.run ≡ 0) × (result.wrong ≡ 0) }
+    // Counts one case more.
+    pub fn add_case(&mut self, right: bool)
+        ensures run { self.new.run ≡ sum self.old.run 1 }
+        ensures wrong { self.new.wrong ≡ sum self.old.wrong (misses right) }
     {
-        Tally { run: 0, wrong: 0 }
+        self.add(Tally {
+            run: 1,
+            wrong: u64::from(!right),
+        });
     }
 
-    // One case more.
-    pub fn with_case(self, right: bool) -> Tally
-        ensures { (result.run ≡ sum self.run 1) × (result.wrong ≡ sum self.wrong (misses right)) }
+    // Adds the cases of another. No count comes near 2^64, where the sums would wrap.
+    pub fn add(&mut self, other: Tally)
+        ensures run { self.new.run ≡ sum self.old.run other.run }
+        ensures wrong { self.new.wrong ≡ sum self.old.wrong other.wrong }
     {
-        if right {
-            return self.plus(Tally { run: 1, wrong: 0 });
-        }
-        self.plus(Tally { run: 1, wrong: 1 })
+        self.run = self.run.wrapping_add(other.run);
+        self.wrong = self.wrong.wrapping_add(other.wrong);
     }
 
-    // The cases of both. No count comes near 2^64, where the sums would wrap.
-    pub fn plus(self, other: Tally) -> Tally
-        ensures { (result.run ≡ sum self.run other.run) × (result.wrong ≡ sum self.wrong other.wrong) }
+    // Prints the line of a family, and adds its counts to those of the families before it.
+    pub fn print(&mut self, rt: &impl Print, name: &str, family: Tally) -> io::Result<()>
+        ensures run { OnOk result (self.new.run ≡ sum self.old.run family.run) }
+        ensures wrong { OnOk result (self.new.wrong ≡ sum self.old.wrong family.wrong) }
+        ensures err { OnErr result (self.new ≡ self.old) }
     {
-        Tally {
-            run: wrapping_add_u64(self.run, other.run),
-            wrong: wrapping_add_u64(self.wrong, other.wrong),
-        }
+        println!(rt; "{name}: {family}")?;
+        self.add(family);
+        Ok(())
     }
 }
 
-// Prints the line of a family, and adds its counts to those of the families before it.
-pub fn print(rt: &impl Print, before: Tally, name: &[u8], tally: Tally) -> io::Result<Tally>
-    ensures { IfOk result (λ t. (t.run ≡ sum before.run tally.run) × (t.wrong ≡ sum before.wrong tally.wrong)) }
-{
-    rt.write_all(name)?;
-    println!(rt; ": {} cases, {} wrong", tally.run, tally.wrong)?;
-    Ok(before.plus(tally))
+impl fmt::Display for Tally {
+    fn fmt<W: fmt::Write>(&self, f: &mut fmt::Formatter<W>) -> fmt::Result {
+        write!(f, "{} cases, {} wrong", self.run, self.wrong)
+    }
 }

@@ -1,43 +1,42 @@
 // The tidy log of a day, found slowly: every pair is looked up in every tick.
-ghost use Rattle.std.specs.Prelude.{◌≤◌};
+use crate::bytes::{BH, Bytes, CONTACT_BYTES};
+use crate::day::{Day, Span};
 
-use crate::bits::has;
-use crate::bytes::{BH, Bytes};
-use crate::words::{sets_for, word_of};
-use std::num::{wrapping_add_usize, wrapping_sub_usize};
-
-// A log with the runs of badges u and v in T ticks, if u is the smaller. Tick T, in which no pair is in contact, ends the last run.
-fn with_pair(log: Bytes, words: &[u64], n: usize, ticks: usize, u: usize, v: usize) -> Bytes {
-    let mut out = log;
-    let mut run = 0;
-    for t in 0..=ticks {
-        let met = (u < v) & (t < ticks) & has(word_of(words, n, t, u), v);
-        if met {
-            run = wrapping_add_usize(run, 1);
-        } else {
-            if 0 < run {
-                let first = wrapping_sub_usize(t, run);
-                let longer = out.with_contact(u, v, first, wrapping_sub_usize(t, 1));
-                out = longer;
-            }
-            run = 0;
-        }
+// The run of contact of badges u and v that begins with a tick, if one does.
+fn run_from(day: &Day, u: usize, v: usize, first: usize) -> Option<Span> {
+    if 0 < first && day.in_contact(first - 1, u, v) {
+        return None;
     }
-    out
+    (first..day.ticks)
+        .take_while(|t| day.in_contact(*t, u, v))
+        .last()
+        .map(|last| Span { first, last })
 }
 
-// The tidy log of a day's words, for a day whose log has room; no bytes for n 0, which is no day. A contact has six bytes and the header fewer,
-// so that a sixth of the bytes is the number of contacts.
-pub fn tidy_log(words: &[u64], n: usize, ticks: usize) -> Bytes
-    ensures { result.len ≤ 4096 }
-{
-    if n == 0 {
-        return Bytes::none();
+// Puts the runs of badges u and v into a log.
+fn put_pair(log: &mut Bytes, day: &Day, u: usize, v: usize) {
+    for first in 0..day.ticks {
+        if let Some(run) = run_from(day, u, v, first) {
+            log.put_contact(u, v, run);
+        }
     }
-    let mut log = Bytes::none().with_record(BH, n, ticks);
-    for pair in 0..sets_for(n, n) {
-        let longer = with_pair(log, words, n, ticks, pair / n, pair % n);
-        log = longer;
+}
+
+// Puts the runs of badge u and each larger one into a log.
+fn put_badge(log: &mut Bytes, day: &Day, u: usize) {
+    for v in (u..day.badges).skip(1) {
+        put_pair(log, day, u, v);
     }
-    log.with_end(log.len / 6)
+}
+
+// The tidy log of a day for which a log has room. A contact has six bytes and the header fewer, so that a sixth of the bytes is the number of
+// contacts.
+pub fn tidy_log(day: &Day) -> Bytes {
+    let mut log = Bytes::new();
+    log.put_record(BH, &[day.badges, day.ticks]);
+    for u in 0..day.badges {
+        put_badge(&mut log, day, u);
+    }
+    log.put_end(log.len() / CONTACT_BYTES);
+    log
 }
