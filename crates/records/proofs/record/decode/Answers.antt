@@ -17,7 +17,7 @@ by s m h e = rw e (sym (decode-mark s h))
 unmarked : (s : List ℕ) (m : Option Kind) (x : Undecoded) → 2 ≤ length s → m ≡ mark_from (get_or s 0 0) (get_or s 1 0) → ok_or m UnknownMark ≡ Err x → Err x ≡ decode s
 unfolding decode_marked
 unmarked s None x h e f = let g : x ≡ UnknownMark = cc in rw g (by s None h e)
-unmarked s (Some kind) x h e f = absurd (let z : ◌≡◌ {A = ℕ} 0 1 = cc in omega arith)
+unmarked s (Some kind) x h e f = cc
 
 pub returns-then-rest-lt2 : goal.returns-then-rest-lt2
 returns-then-rest-lt2 c = sym (decode-none _ c.if-rest-lt2.true)
