@@ -1,16 +1,23 @@
 -- Laws of a walk over the badges of one word, smallest first, as the program makes it.
 use mathlib.Core.Path.{◌≡◌, sym, ap, ◌∙◌}
-use Prim.Native.Nat.{ℕ, ◌+◌, ◌*◌, ◌^◌, ◌<◌}
-use Rattle.sets.specs.Sets.{In, difference, only, smallest}
+use Prim.Native.Nat.{ℕ, ◌+◌, ◌-◌, ◌*◌, ◌^◌, ◌<◌}
+use native.Mathlib.Omega.{arith}
+use Rattle.std.specs.Int.Bits.{bit_and}
+use Rattle.std.specs.Prelude.{Some}
+use Rattle.sets.specs.Sets.{difference, only, TakesSmallest}
 use Rattle.sets.specs.Words.{word_bits, in_word}
-use Rattle.sets.proofs.Smallest.{smallest-member, without-smallest}
+use Rattle.sets.proofs.Smallest.{without-smallest}
+use Rattle.sets.proofs.Sets.{sub_refl, sub-lt}
+use Rattle.sets.proofs.Walks.{unseen-less}
 use Rattle.sets.proofs.InWord.{word-rest}
 
--- on a walk over a word that is not 0, its smallest badge is one of its badges
-pub smallest-in : (w : ℕ) {b : ℕ} → w < 2 ^ word_bits → (w ≡ 0 → ⊥) → b ≡ smallest word_bits w → In w b
-smallest-in w l f e = rw e (smallest-member word_bits w l f).0
+-- fewer badges are left after its turn, and the word has no other
+pub word-fewer : (w b : ℕ) {rest : ℕ} → TakesSmallest word_bits w (Some b) rest → w < 2 ^ word_bits → rest < 2 ^ word_bits
+word-fewer w b t l = rw t.2 (sub-lt word_bits _ w (unseen-less b (sub_refl w)) l)
 
 -- what is left of a word on a walk over it, after the turn of its smallest badge
-pub word-without : (i w b : ℕ) {rest : ℕ} → w < 2 ^ word_bits → (w ≡ 0 → ⊥) → b ≡ smallest word_bits w → rest ≡ difference w (only (smallest word_bits w))
-    → in_word i rest ≡ difference (in_word i w) (only (i * word_bits + b))
-word-without i w b l f e r = ap (in_word i) (r ∙ sym (without-smallest word_bits w l f)) ∙ word-rest i w b l f e
+pub word-without : (i w b : ℕ) {rest : ℕ} → w < 2 ^ word_bits → TakesSmallest word_bits w (Some b) rest → in_word i rest ≡ difference (in_word i w) (only (i * word_bits + b))
+word-without i w b {rest} l t =
+    let f : w ≡ 0 → ⊥ = λ e. omega arith in
+    let r : rest ≡ bit_and w (w - 1) = t.2 ∙ ap (λ (u : ℕ). difference w (only u)) t.1 ∙ sym (without-smallest word_bits w l f) in
+    ap (in_word i) r ∙ word-rest i w b l f t.1

@@ -1,8 +1,7 @@
 -- Which of document 01's outcomes each answer of the check of words is.
-use Rattle.records.specs.Outcomes.{Outcome, success, refused_by}
-use Rattle.checks.specs.declared.checking.Checked.{Checked}
-use Rattle.checks.specs.declared.checking.Checked.TheVariants as c
+use Rattle.std.specs.Prelude.{Result}
+use Rattle.records.specs.declared.refusal.Refusal.{Refusal}
+use Rattle.records.specs.Outcomes.{Outcome, log_outcome}
 
-abbrev pub checked_outcome : Checked → Outcome (Unit {0})
-checked_outcome c.Day = success tt
-checked_outcome (c.Refused x) = refused_by x
+abbrev pub checked_outcome : Result (Unit {0}) Refusal → Outcome (Unit {0})
+checked_outcome r = log_outcome r

@@ -9,17 +9,9 @@ ghost use Rattle.days.specs.Calls.{check_of};
 ghost use Rattle.checks.specs.Answers.{checked_outcome};
 ghost use Rattle.checks.specs.Scan.{Passed, PassedIf};
 
-use crate::bits::{smallest_bit, without_smallest};
 use crate::comparing::{change_at, changes};
 use records::{Refusal, within_limits};
-use sets::{BadgeSet, ROW_WORDS, SET_WORDS, WORD_BITS};
-
-// Whether words are those of a day of n badges and T ticks.
-#[derive(Clone, Copy)]
-pub enum Checked {
-    Day,
-    Refused(Refusal),
-}
+use sets::{BadgeSet, Ones, ROW_WORDS, SET_WORDS, WORD_BITS};
 
 // Changes the badges of a word, as word i of a set, in the row of v: puts in those that are not there, and takes out those that are.
 fn toggle(known: &mut [u64], v: usize, i: usize, word: u64)
@@ -36,14 +28,12 @@ fn walk_upper(tick: &[u64], known: &mut [u64], u: usize) -> bool
     ensures { (n : ℕ) → n ≤ capacity → u < n → Passed n u tick.now known.old → PassedIf result n (u + 1) tick.now known.new }
 {
     let word = change_at(tick, known, u).word(1);
-    let mut unseen = word;
-    while unseen != 0 {
-        let v = WORD_BITS + smallest_bit(unseen);
+    for place in (Ones { word }) {
+        let v = WORD_BITS + place;
         if v <= u {
             return false;
         }
         toggle(known, v, u / WORD_BITS, 1 << (u % WORD_BITS));
-        unseen = without_smallest(unseen);
     }
     toggle(known, u, 1, word);
     true
@@ -97,15 +87,12 @@ fn is_day(words: &[u64], n: usize, ticks: usize) -> bool
             if word == 0 {
                 continue;
             }
-            let mut unseen = word;
-            while unseen != 0 {
-                let v = smallest_bit(unseen);
+            for v in (Ones { word }) {
                 if v <= u {
                     good = false;
                     break 'scan;
                 }
                 toggle(&mut known, v, 0, 1 << u);
-                unseen = without_smallest(unseen);
             }
             toggle(&mut known, u, 0, word);
         }
@@ -113,18 +100,18 @@ fn is_day(words: &[u64], n: usize, ticks: usize) -> bool
     good
 }
 
-// The words, judged by 10, 8 and 11 in that order. Words after the first 2×n×T are not read.
-pub fn check_words(words: &[u64], badges: usize, ticks: usize) -> Checked
+// Whether the words are a day of n badges and T ticks, judged by 10, 8 and 11 in that order. Words after the first 2×n×T are not read.
+pub fn check_words(words: &[u64], badges: usize, ticks: usize) -> Result<(), Refusal>
     ensures { checked_outcome result ≡ check_of badges ticks words.now }
 {
     if !within_limits(badges, ticks) {
-        return Checked::Refused(Refusal::SizeOutOfLimits);
+        return Err(Refusal::SizeOutOfLimits);
     }
     if words.len() < ticks * badges * SET_WORDS {
-        return Checked::Refused(Refusal::TooFewWords);
+        return Err(Refusal::TooFewWords);
     }
     if !is_day(words, badges, ticks) {
-        return Checked::Refused(Refusal::NotADay);
+        return Err(Refusal::NotADay);
     }
-    Checked::Day
+    Ok(())
 }

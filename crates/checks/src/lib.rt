@@ -4,10 +4,9 @@
 
 #![tactic(auto)]
 
-mod bits;
 mod checking;
 mod comparing;
 mod rows;
 
-pub use checking::{Checked, check_words};
+pub use checking::check_words;
 pub use rows::{copy_tick, united};

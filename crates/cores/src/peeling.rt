@@ -1,12 +1,12 @@
 // Peeling: badges of low degree are dropped until none is left to drop.
 ghost use Rattle.std.specs.Prelude.{◌≡◌, ◌<◌, length};
 ghost use Rattle.sets.specs.Members.{members, capacity, row_words};
-ghost use Rattle.sets.specs.Words.{set_words, words_of};
+ghost use Rattle.sets.specs.Words.{words_of};
 ghost use Rattle.cores.specs.Graphs.{degree};
 ghost use Rattle.cores.specs.Rows.{graph, kept_rows, IsPeeled};
-ghost use Rattle.cores.specs.Passes.{LookedAt, WordSeen, Passed, IsCoreKept};
+ghost use Rattle.cores.specs.Passes.{LookedAt, Passed, IsCoreKept};
 
-use sets::{BadgeSet, CAPACITY, ROW_WORDS, SET_WORDS, WORD_BITS, put_set, set_at};
+use sets::{BadgeSet, CAPACITY, ROW_WORDS, SET_WORDS, put_set, set_at};
 
 // What is left of a set while badges are dropped, and the least degree among those that were kept; the capacity where none was.
 #[derive(Clone, Copy)]
@@ -51,23 +51,7 @@ fn look_at(rows: &[u64; ROW_WORDS], kept: Kept, order: usize, u: usize) -> Kept
     kept
 }
 
-// Looks at the members of a set that are in its word i, the smallest first: each that has too few neighbours in what is left then is dropped.
-fn look_at_word(rows: &[u64; ROW_WORDS], start: Kept, s: BadgeSet, i: usize, order: usize) -> Kept
-    requires { i < set_words }
-    ensures { WordSeen (graph rows.now) order (members s) i (members start.members) start.least (members result.members) result.least }
-{
-    let mut kept = start;
-    let mut unseen = s.word(i);
-    while unseen != 0 {
-        let u = i * WORD_BITS + u64::trailing_zeros(unseen) as usize;
-        let next = look_at(rows, kept, order, u);
-        kept = next;
-        unseen = unseen & (unseen - 1);
-    }
-    kept
-}
-
-// One pass over the members of a set, word by word: each that has too few neighbours in what is left then is dropped.
+// One pass over the members of a set, the smallest first: each that has too few neighbours in what is left then is dropped.
 fn pass(rows: &[u64; ROW_WORDS], s: BadgeSet, order: usize) -> Kept
     ensures { Passed (graph rows.now) order (members s) (members result.members) result.least }
 {
@@ -75,11 +59,8 @@ fn pass(rows: &[u64; ROW_WORDS], s: BadgeSet, order: usize) -> Kept
         members: s,
         least: CAPACITY,
     };
-    let mut i: usize = 0;
-    while i < SET_WORDS {
-        let next = look_at_word(rows, kept, s, i, order);
-        kept = next;
-        i += 1;
+    for u in s.badges() {
+        kept = look_at(rows, kept, order, u);
     }
     kept
 }
@@ -101,16 +82,12 @@ pub(crate) fn core(rows: &[u64; ROW_WORDS], base: BadgeSet, order: usize) -> Kep
 }
 
 // The rows of the members of a set, and an empty row for every other badge.
-fn keep(rows: [u64; ROW_WORDS], s: BadgeSet) -> [u64; ROW_WORDS]
-    ensures { result ≡ words_of (kept_rows rows (members s)) }
+fn keep(rows: [u64; ROW_WORDS], kept: BadgeSet) -> [u64; ROW_WORDS]
+    ensures { result ≡ words_of (kept_rows rows (members kept)) }
 {
     let mut out = [0u64; ROW_WORDS];
-    let mut unseen = s;
-    while !unseen.is_empty() {
-        let u = unseen.smallest();
+    for u in kept.badges() {
         put_set(&mut out, u, set_at(&rows, u));
-        let rest = unseen.rest();
-        unseen = rest;
     }
     out
 }

@@ -1,13 +1,12 @@
 -- What write and tidy answer and leave in the slices that were lent, for every input, by the orders of documents 01 and 02.
-use Rattle.std.specs.Prelude.{List, ℕ, ltb, length}
+use Rattle.std.specs.Prelude.{List, ℕ, ltb, length, Result}
+use Rattle.records.specs.declared.refusal.Refusal.{Refusal}
 use Rattle.records.specs.Limits.{max_contacts, words_for}
-use Rattle.records.specs.Outcomes.{Outcome, success, refuse_if, and_then, refused_by}
+use Rattle.records.specs.Outcomes.{Outcome, success, refuse_if, and_then, log_outcome}
 use Rattle.records.specs.Judging.{judge}
 use Rattle.records.specs.Meaning.{badges_of, ticks_of, in_contact}
 use Rattle.days.specs.Days.{adjacent}
 use Rattle.days.specs.Calls.{read_of, check_of}
-use Rattle.logs.specs.declared.writing.Written.{Written}
-use Rattle.logs.specs.declared.writing.Written.TheVariants as w
 use Rattle.logs.specs.Tidy.{tidy_contacts, tidy_log}
 use Rattle.logs.specs.Buffers.{Delivered, deliver}
 
@@ -38,6 +37,6 @@ tidy_of log work buffer = record {
   buffer = (deliver (tidy_before9 log work) buffer).buffer;
 }
 
-abbrev pub written_outcome : Written → Outcome ℕ
-written_outcome (w.Bytes count) = success count
-written_outcome (w.Refused x) = refused_by x
+-- what the answer of a call that fills a result buffer says: the number of bytes written, or its refusal's number and byte offset
+abbrev pub written_outcome : Result ℕ Refusal → Outcome ℕ
+written_outcome r = log_outcome r

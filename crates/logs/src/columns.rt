@@ -1,23 +1,19 @@
 // The columns of a badge: for each larger one the ticks in which the two meet, as a word.
-ghost use Rattle.std.specs.Prelude.{◌≡◌, ◌-◌, ◌≤◌, ◌<◌, min, length, replicate};
-ghost use Rattle.sets.specs.Members.{capacity};
-ghost use Rattle.sets.specs.Words.{word_bits, set_words, in_word};
+ghost use Rattle.std.specs.Prelude.{◌≡◌, ◌-◌, ◌≤◌, ◌<◌, min, replicate};
+ghost use Rattle.sets.specs.Members.{capacity, members};
+ghost use Rattle.sets.specs.Words.{word_bits};
 ghost use Rattle.records.specs.Limits.{max_ticks};
 ghost use Rattle.logs.specs.TickSets.{united, Columns};
 ghost use Rattle.logs.specs.Writing.{Writable};
 
 use sets::{BadgeSet, CAPACITY, WORD_BITS, set_at};
 
-// Adds bits to the column of each badge that a word has, as word i of a set.
-fn unite(columns: &mut [u64], word: u64, i: usize, bits: u64)
-    requires { (i < set_words) × (length columns.old ≡ capacity) }
-    ensures { columns.new ≡ united columns.old (in_word i word) bits }
+// Adds bits to the column of each badge of a set.
+fn unite(columns: &mut [u64; CAPACITY], badges: BadgeSet, bits: u64)
+    ensures { columns.new ≡ united columns.old (members badges) bits }
 {
-    let mut unseen = word;
-    while unseen != 0 {
-        let v = i * WORD_BITS + u64::trailing_zeros(unseen) as usize;
-        columns[v] = columns[v] | bits;
-        unseen = unseen & (unseen - 1);
+    for v in badges.badges() {
+        columns[v] |= bits;
     }
 }
 
@@ -25,18 +21,12 @@ fn unite(columns: &mut [u64], word: u64, i: usize, bits: u64)
 fn window(from: usize, ticks: usize) -> usize
     ensures { result ≡ min word_bits (ticks - from) }
 {
-    if ticks <= from {
-        return 0;
-    }
-    if WORD_BITS < ticks - from {
-        return WORD_BITS;
-    }
-    ticks - from
+    ticks.saturating_sub(from).min(WORD_BITS)
 }
 
 // Gathers, into empty columns, for each badge v larger than u in which of the ticks from one on, as many as a word has bits, u and v meet: bit t is for
 // tick from + t.
-// The set bits of u's words are walked, so a pair costs nothing in a tick in which it does not meet.
+// The members of u's sets are walked, so a pair costs nothing in a tick in which it does not meet.
 pub(crate) fn gather_columns(
     words: &[u64],
     n: usize,
@@ -52,7 +42,6 @@ pub(crate) fn gather_columns(
     let m = window(from, ticks);
     for t in 0..m {
         let larger = set_at(words, (from + t) * n + u).difference(smaller);
-        unite(columns, larger.word(0), 0, 1 << t);
-        unite(columns, larger.word(1), 1, 1 << t);
+        unite(columns, larger, 1 << t);
     }
 }

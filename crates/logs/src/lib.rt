@@ -13,9 +13,9 @@ mod ticks;
 mod tidying;
 mod writing;
 
-pub use checks::{Checked, check_words};
+pub use checks::check_words;
 pub use days::read;
 pub use encoding::{put, put_record};
-pub use records::{Record, Refusal, Verdict};
+pub use records::{Accepted, Reason, Record, Refusal};
 pub use tidying::tidy;
-pub use writing::{Written, deliver, write};
+pub use writing::{deliver, write};

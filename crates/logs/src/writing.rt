@@ -7,28 +7,21 @@ ghost use Rattle.logs.specs.Calls.{write_of, written_outcome};
 
 use crate::encoding::{put, put_record};
 use crate::pairs::append_row;
-use checks::{Checked, check_words};
+use checks::check_words;
 use records::{MAX_CONTACTS, MAX_LOG_BYTES, Record, Refusal};
 
-// What came of writing a log into a buffer: the number of bytes written, or a refusal.
-#[derive(Clone, Copy)]
-pub enum Written {
-    Bytes(usize),
-    Refused(Refusal),
-}
-
-// Puts an answer, in its bytes, into the buffer that is lent, if the buffer holds it. Refused by 9, and then no byte is changed; bytes after
+// Puts an answer, in its bytes, into the buffer that is lent, if the buffer holds it, and answers how many they are. Refused by 9, and then no byte is changed; bytes after
 // the answer are never touched.
 #[tactic(auto, using(crate::proofs::Delivering::delivers))]
-pub fn deliver(bytes: &[u8], buffer: &mut [u8]) -> Written
+pub fn deliver(bytes: &[u8], buffer: &mut [u8]) -> Result<usize, Refusal>
     ensures answer { written_outcome result ≡ (deliver (success bytes.now) buffer.old).answer }
     ensures leaves { buffer.new ≡ (deliver (success bytes.now) buffer.old).buffer }
 {
     if buffer.len() < bytes.len() {
-        return Written::Refused(Refusal::BufferTooShort);
+        return Err(Refusal::BufferTooShort);
     }
     put(buffer, 0, bytes);
-    Written::Bytes(bytes.len())
+    Ok(bytes.len())
 }
 
 // Encodes the tidy log of a day's words in a buffer that holds any log, and answers how many contact records it has: 8,001 stands for too
@@ -71,19 +64,20 @@ pub(crate) fn encode_day(
 // Writes a day's words as a tidy log into the buffer that is lent, and answers the number of bytes. Refused by 10, 8, 11, 15 and 9, in that
 // order; a refused call changes no byte, and bytes after the answer are never touched. The log is made once, in memory of its own, and
 // measured; it is copied if there are not too many contact records and the buffer holds it.
-pub fn write(words: &[u64], badges: usize, ticks: usize, buffer: &mut [u8]) -> Written
+pub fn write(
+    words: &[u64],
+    badges: usize,
+    ticks: usize,
+    buffer: &mut [u8],
+) -> Result<usize, Refusal>
     ensures answer { written_outcome result ≡ (write_of badges ticks words.now buffer.old).answer }
     ensures leaves { buffer.new ≡ (write_of badges ticks words.now buffer.old).buffer }
 {
-    match check_words(words, badges, ticks) {
-        Checked::Refused(refusal) => Written::Refused(refusal),
-        Checked::Day => {
-            let mut log = [0u8; MAX_LOG_BYTES];
-            let count = encode_day(words, badges, ticks, &mut log);
-            if count > MAX_CONTACTS {
-                return Written::Refused(Refusal::TooManyToWrite);
-            }
-            deliver(&log[..10 + 6 * count], buffer)
-        }
+    check_words(words, badges, ticks)?;
+    let mut log = [0u8; MAX_LOG_BYTES];
+    let count = encode_day(words, badges, ticks, &mut log);
+    if count > MAX_CONTACTS {
+        return Err(Refusal::TooManyToWrite);
     }
+    deliver(&log[..10 + 6 * count], buffer)
 }

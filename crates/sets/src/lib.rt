@@ -2,6 +2,7 @@
 
 #![tactic(auto)]
 
+mod walking;
 mod widening;
 
 ghost use Rattle.std.specs.Prelude.{◌≡◌, ◌-◌, ◌/◌, min, eqb, get_or};
@@ -9,6 +10,7 @@ ghost use Rattle.sets.specs.Sets.{has, is_sub, intersection, union, difference, 
 ghost use Rattle.sets.specs.Words.{word_bits, lower_words, to_words, set_at, put_set};
 ghost use Rattle.sets.specs.Members.{set_of_two, members, capacity, insert};
 
+pub use walking::{Badges, Ones};
 pub use widening::widen;
 
 // The bits of a word; how many words hold a set, in memory that is lent and in memory of one's own; how many badges there can be in a set; and the words of
@@ -156,6 +158,13 @@ impl BadgeSet {
             low: self.low ^ other.low,
             high: self.high ^ other.high,
         }
+    }
+
+    // The badges in the set, the smallest first.
+    pub fn badges(self) -> Badges
+        ensures { result.left ≡ self }
+    {
+        Badges { left: self }
     }
 
     // How many badges are in the set.

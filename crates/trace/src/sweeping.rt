@@ -1,14 +1,14 @@
 // The sweep over the ticks of a day, from the start tick on, into the bytes of the trace.
-ghost use Rattle.std.specs.Prelude.{◌≡◌, List, ℕ, ◌+◌, ◌≤◌, ◌<◌, length, replicate};
-ghost use Rattle.sets.specs.Sets.{Sub, intersection, difference, full};
+ghost use Rattle.std.specs.Prelude.{◌≡◌, ◌+◌, ◌≤◌, ◌<◌, length, replicate};
+ghost use Rattle.sets.specs.Sets.{intersection};
 ghost use Rattle.sets.specs.Members.{capacity, members};
-ghost use Rattle.sets.specs.Words.{in_word, places, set_at};
+ghost use Rattle.sets.specs.Words.{places, set_at};
 ghost use Rattle.chains.specs.Traces.{never};
 ghost use Rattle.chains.specs.Sweep.{trace_bytes};
 ghost use Rattle.chains.specs.Judging.{StartOfDay};
-ghost use Rattle.trace.specs.Steps.{shown, reached_by, Turned, PassedTick};
+ghost use Rattle.trace.specs.Steps.{shown, reached_by, PassedTick};
 
-use sets::{BadgeSet, SET_WORDS, WORD_BITS};
+use sets::{BadgeSet, SET_WORDS};
 
 // In a trace: the tick of a badge that is never reached, and the source of a badge that has none.
 const NONE: u8 = 255;
@@ -17,9 +17,7 @@ const NONE: u8 = 255;
 fn clear(trace: &mut [u8])
     ensures { trace.new ≡ replicate (length trace.old) never }
 {
-    for i in 0..trace.len() {
-        trace[i] = NONE;
-    }
+    trace.fill(NONE);
 }
 
 // Those who pass on and are in contact with a badge, whose set is at a place. The place is known to be there: a test of it would take longer than the rest
@@ -61,34 +59,6 @@ fn reach(
     reached.with(u)
 }
 
-// The turns of the badges of a word, as word i of a set, in tick t, whose sets are those from a place on.
-fn pass_word(
-    trace: &mut [u8],
-    words: &[u64],
-    n: usize,
-    base: usize,
-    t: u8,
-    passing: BadgeSet,
-    before: BadgeSet,
-    word: u64,
-    i: usize,
-) -> BadgeSet
-    requires { (n ≤ capacity) × (base + n ≤ places words.now) × (length trace.old ≡ n + n) × Sub (in_word i word) (full n) }
-    ensures { (unseen : ℕ) (first : List ℕ) → Sub (in_word i word) unseen
-        → Turned n (λ u. set_at words.now (base + u)) t (members passing) unseen (members before) first trace.old
-        → Turned n (λ u. set_at words.now (base + u)) t (members passing) (difference unseen (in_word i word)) (members result) first trace.new }
-{
-    let mut reached = before;
-    let mut unseen = word;
-    while unseen != 0 {
-        let u = i * WORD_BITS + u64::trailing_zeros(unseen) as usize;
-        let next = reach(trace, words, n, base, u, t, passing, reached);
-        reached = next;
-        unseen = unseen & (unseen - 1);
-    }
-    reached
-}
-
 // Sweeps over tick t, whose sets are those from a place on: looks at each badge that was not reached before, and gives those that may pass on in the next
 // tick.
 fn pass_tick(
@@ -103,10 +73,11 @@ fn pass_tick(
     ensures { PassedTick n (λ u. set_at words.now (base + u)) t (members passing) (members result) trace.old trace.new }
 {
     let unseen = BadgeSet::full(n).difference(passing);
-    let low = unseen.word(0);
-    let high = unseen.word(1);
-    let lower = pass_word(trace, words, n, base, t, passing, passing, low, 0);
-    pass_word(trace, words, n, base, t, passing, lower, high, 1)
+    let mut reached = passing;
+    for u in unseen.badges() {
+        reached = reach(trace, words, n, base, u, t, passing, reached);
+    }
+    reached
 }
 
 // Puts the trace from the index and the start tick on into its bytes: in the start tick the index alone may pass on.
@@ -125,7 +96,6 @@ pub(crate) fn sweep(
     trace[index] = start as u8;
     let mut passing = BadgeSet::EMPTY.with(index);
     for t in start..ticks {
-        let next = pass_tick(trace, words, n, t * n, t as u8, passing);
-        passing = next;
+        passing = pass_tick(trace, words, n, t * n, t as u8, passing);
     }
 }

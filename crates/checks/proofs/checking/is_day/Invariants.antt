@@ -1,11 +1,11 @@
 -- `checking::is_day` meets its contract. The ticks passed are those of a day, and the rows known are a tick's; in the tick at hand, those of the badges passed
--- are the tick's own; on the walk over what changes in a row, they would be a tick's if that row had the changes that are seen. The walk ends as its unseen
--- changes get fewer.
+-- are the tick's own; on the walk over what changes in a row, they would be a tick's if that row had the changes that are seen. Those unseen are
+-- the badges that are still to come.
 use mathlib.Core.Bool.{true}
 use mathlib.Core.Path.{◌≡◌}
 use Prim.Native.Nat.{ℕ, ◌^◌, ◌≤◌, ◌<◌}
 use lib.ListN.{length}
-use Rattle.sets.specs.Sets.{symmetric_difference, size}
+use Rattle.sets.specs.Sets.{symmetric_difference}
 use Rattle.sets.specs.Words.{word_bits, set_at}
 use Rattle.sets.specs.Members.{row_words}
 use Rattle.days.specs.Days.{neighbours, IsTick}
@@ -13,14 +13,11 @@ use Rattle.checks.specs.Scan.{SameUpper, Passed}
 use Rattle.checks.proofs.Walk.{Walk}
 use Rattle.checks.proofs.checking.is_day.Given as goal
 
-abbrev pub invariant-loop-unseen : goal.invariant-loop-unseen
-invariant-loop-unseen l =
+abbrev pub invariant-loop-v : goal.invariant-loop-v
+invariant-loop-v l =
     (l.good ≡ true) × (length l.known ≡ row_words) × ((w : ℕ) → w < l.u → set_at l.known w ≡ set_at l.tick w)
-    × (l.unseen < 2 ^ word_bits) × Walk l.n l.u (set_at l.tick l.u) (set_at l.known) l.unseen
+    × (l.v-iterator.word < 2 ^ word_bits) × Walk l.n l.u (set_at l.tick l.u) (set_at l.known) l.v-iterator.word
     × ((w : ℕ) → w < l.n → SameUpper (set_at l.known w) (set_at l.tick w)) × (symmetric_difference (set_at l.known l.u) l.word ≡ set_at l.tick l.u)
-
-abbrev pub decreases-loop-unseen : goal.decreases-loop-unseen
-decreases-loop-unseen l = size l.unseen
 
 abbrev pub invariant-loop-u : goal.invariant-loop-u
 invariant-loop-u l =

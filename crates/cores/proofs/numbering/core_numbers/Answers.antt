@@ -47,5 +47,5 @@ loop-rows-preserved c =
       omega arith,
       omega (arith, level-le (level (goal.at.loop-rows-preserved c).After-core-kept) (some (goal.at.loop-rows-preserved c).Else-is_empty)),
       rw f (among-more (level (goal.at.loop-rows-preserved c).After-core-kept) d (level-rises (level (goal.at.loop-rows-preserved c).After-core-kept) (some (goal.at.loop-rows-preserved c).Else-is_empty))),
-      rw f (c.raise-raised.ensures ∙ numbers_more _ _ _ (level (goal.at.loop-rows-preserved c).After-core-kept) (some (goal.at.loop-rows-preserved c).Else-is_empty) _ c.loop-rows.invariant.3),
+      rw f (c.raise.ensures ∙ numbers_more _ _ _ (level (goal.at.loop-rows-preserved c).After-core-kept) (some (goal.at.loop-rows-preserved c).Else-is_empty) _ c.loop-rows.invariant.3),
     )

@@ -1,13 +1,13 @@
--- `numbering::raise` meets its contract. Its loop's invariant: the members of the words before i have the number k.
+-- `numbering::raise` meets its contract. Its loop's invariant: the members that are no longer to come have the number k.
 use mathlib.Core.Path.{◌≡◌}
-use Prim.Native.Nat.{◌-◌, ◌≤◌}
-use Rattle.sets.specs.Words.{set_words}
-use Rattle.sets.specs.Members.{members}
-use Rattle.cores.proofs.Raised.{raised_before}
+use lib.ListN.{get_or}
+use Rattle.sets.specs.Sets.{Sub, difference}
+use Rattle.sets.specs.Members.{capacity, members}
+use Rattle.sets.specs.Tables.{tabulate, piecewise}
 use Rattle.cores.proofs.numbering.raise.Given as goal
 
-abbrev pub invariant-loop-i : goal.invariant-loop-i
-invariant-loop-i l = (l.i ≤ set_words) × (l.out ≡ raised_before l.initial.out (members l.s) l.k l.i)
-
-abbrev pub decreases-loop-i : goal.decreases-loop-i
-decreases-loop-i l = set_words - l.i
+abbrev pub invariant-loop-u : goal.invariant-loop-u
+invariant-loop-u l =
+    let s = members l.fn.s in
+    let left = members l.u-iterator.left in
+    Sub left s × (l.numbers ≡ tabulate capacity (piecewise (difference s left) (λ u. l.k) (λ u. get_or l.fn.numbers u 0)))

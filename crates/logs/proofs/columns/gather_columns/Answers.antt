@@ -1,20 +1,16 @@
 -- gather_columns meets its contract: before tick t of the loop the columns hold the ticks before t.
 use mathlib.Core.Path.{◌≡◌, ap, ap₂, ◌∙◌}
-use mathlib.Core.List.{List}
-use Prim.Native.Nat.{ℕ, ◌+◌, ◌*◌, ◌-◌, ◌≤◌, min}
+use Prim.Native.Nat.{◌+◌, ◌*◌, ◌-◌, ◌≤◌, min}
 use native.Mathlib.Omega.{arith}
-use lib.ListN.{length, get_or}
 use borrow.Author.Rules.{rules}
 use Rattle.sets.specs.Sets.{difference, only, full}
 use Rattle.sets.specs.Members.{capacity, members}
-use Rattle.sets.specs.Words.{word_bits, in_word, to_words, lower_words}
+use Rattle.sets.specs.Words.{word_bits}
 use Rattle.sets.proofs.Bits.{one_shl}
-use Rattle.sets.proofs.Tables.{tabulate-length}
-use Rattle.sets.proofs.Pairs.{members-lt}
 use Rattle.days.specs.Days.{neighbours}
 use Rattle.days.proofs.Days.{tick-fits}
 use Rattle.logs.specs.TickSets.{united}
-use Rattle.logs.proofs.Gathering.{united-words, columns-none, columns-more}
+use Rattle.logs.proofs.Gathering.{columns-none, columns-more}
 use Rattle.logs.proofs.columns.gather_columns.Goals as goal
 use Rattle.logs.proofs.columns.gather_columns.Goals.{After-unite, In-loop-t}
 
@@ -37,32 +33,17 @@ overflow_mul-from c = omega (arith, here (goal.at.overflow_mul-from c).In-loop-t
 pub overflow_add-from-in-loop-t : goal.overflow_add-from-in-loop-t
 overflow_add-from-in-loop-t c = omega (arith, here (goal.at.overflow_add-from-in-loop-t c).In-loop-t)
 
-pub unite-requires : goal.unite-requires
-unite-requires c = (omega arith, c.loop-t.invariant.2.whole)
-
-pub unite-requires-in-loop-t : goal.unite-requires-in-loop-t
-unfolding united
-unite-requires-in-loop-t c = (omega arith, ap length c.unite.ensures ∙ tabulate-length capacity _)
-
 pub loop-t-preserved : goal.loop-t-preserved
 unfolding neighbours only
 loop-t-preserved c =
-    let u = (goal.at.loop-t-preserved c).After-unite in
     let l = c.loop-t in
     let a = c.args in
     let larger = c.difference-larger.result in
-    let bits = one_shl l.t (omega arith) in
     let row = neighbours a.n a.words.now (a.from + l.t) a.u in
     let s : members larger ≡ difference row (full (a.u + 1)) = c.difference-larger.ensures ∙ ap₂ difference c.set_at.ensures l.invariant.1 in
-    let first : u.unite.new.columns ≡ united l.columns (in_word 0 (get_or (to_words lower_words (members larger)) 0 0)) (only l.t) =
-    u.unite.ensures ∙ ap₂ (united l.columns) (ap (in_word 0) u.word.ensures) bits in
-    let both : c.unite-in-loop-t.new.columns ≡ united l.columns (difference row (full (a.u + 1))) (only l.t) =
-    c.unite-in-loop-t.ensures
-    ∙ ap₂ (united u.unite.new.columns) (ap (in_word 1) c.word-in-loop-t.ensures) bits
-    ∙ ap (λ (table : List ℕ). united table (in_word 1 (get_or (to_words lower_words (members larger)) 1 0)) (only l.t)) first
-    ∙ united-words l.columns (members larger) (only l.t) (members-lt larger (omega arith) (omega arith))
-    ∙ ap (λ (x : ℕ). united l.columns x (only l.t)) s in
-    (search rules, l.invariant.1, rw both (columns-more a.n a.words.now a.u a.from l.t l.invariant.2))
+    let e : c.unite.new.columns ≡ united l.columns (difference row (full (a.u + 1))) (only l.t) =
+    c.unite.ensures ∙ ap₂ (united l.columns) s (one_shl l.t (omega arith)) in
+    (search rules, l.invariant.1, rw e (columns-more a.n a.words.now a.u a.from l.t l.invariant.2))
 
 pub returns : goal.returns
 returns c =

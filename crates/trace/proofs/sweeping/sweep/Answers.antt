@@ -41,11 +41,11 @@ overflow_mul-t c = omega (arith, inside (goal.at.overflow_mul-t c).In-loop-t)
 pub overflow_cast-t : goal.overflow_cast-t
 overflow_cast-t c = omega (arith, (few (goal.at.overflow_cast-t c).In-loop-t).1, c.loop-t-test.true)
 
-pub pass_tick-next-requires : goal.pass_tick-next-requires
-pass_tick-next-requires c = let l = (goal.at.pass_tick-next-requires c).In-loop-t in ((few l).0, inside l, sweeping-long l.loop-t.invariant)
+pub pass_tick-passing-requires : goal.pass_tick-passing-requires
+pass_tick-passing-requires c = let l = (goal.at.pass_tick-passing-requires c).In-loop-t in ((few l).0, inside l, sweeping-long l.loop-t.invariant)
 
 pub loop-t-preserved : goal.loop-t-preserved
-loop-t-preserved c = sweeping-more c.loop-t.invariant c.loop-t-test.true c.pass_tick-next.ensures
+loop-t-preserved c = sweeping-more c.loop-t.invariant c.loop-t-test.true c.pass_tick-passing.ensures
 
 pub shape_of-trace : goal.shape_of-trace
 shape_of-trace c = sweeping-long c.loop-t.invariant ∙ sym c.requires.1
