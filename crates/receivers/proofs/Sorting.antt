@@ -139,9 +139,6 @@ module _ (k size : ℕ) {lent work : List ℕ} where
       last : (n : ℕ) → n ≤ k → (b : Bool) → (leb k n and b) ≡ leb (suc k) (n + digit b)
       last n h b = rw (lt-leb (suc k) n (omega arith)) at (step k n b)
 
-pub sorted_none : (size : ℕ) (lent : List ℕ) → Sorted 0 size lent lent
-sorted_none size lent = record { ranks = λ j h. absurd (not-suc-le-zero h); keeps = λ n h. refl }
-
 -- a number of words up to that of words lent fits its type
 pub fits_below : (k lent : ℕ) → k ≤ lent → lent < 2 ^ 64 → Fits w64 k
 fits_below k lent h l = record { fits = omega arith }

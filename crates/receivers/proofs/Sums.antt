@@ -70,3 +70,6 @@ pub joinable-sum : (bytes : ℕ) (ls : List ℕ) (q : ℕ) → min_logs ≤ leng
 joinable-sum bytes ls q a b c d = same_test _ _
     (λ e. joinable-in bytes ls q (record { several = a; few = b; some = c; most = d; whole = eqb-true _ _ e }))
     (λ e. eq-eqb _ _ (joinable-of bytes ls q e).whole)
+
+-- each answer of the test is found by these
+pub ruleset test = (joinable-not, joinable-sum)

@@ -33,6 +33,9 @@ unfolding within_limits
 limits-in {n} {T} l =
     and_in _ _ (and_in _ _ (and_in _ _ (le-leb _ _ l.some) (le-leb _ _ l.few)) (le-leb _ _ l.long)) (le-leb _ _ l.short)
 
+-- both together, by which each answer of the test is found
+pub ruleset within = (limits_of, limits-in)
+
 -- within the limits a day takes at most 96 × 128 sets
 pub words-most : (n T : ℕ) → Limits n T → words_for n T ≤ max_words
 words-most n T l = omega (arith, mul-le-mul l.short l.few)

@@ -12,6 +12,7 @@ pub const MAX_CONTACTS: usize = 8000;
 pub const MAX_LOG_BYTES: usize = 10 + 6 * MAX_CONTACTS;
 
 // Whether n and T are within their limits.
+#[tactic(auto, using(crate::proofs::WithinLimits::within))]
 pub fn within_limits(badges: usize, ticks: usize) -> bool
     ensures { result ≡ within_limits badges ticks }
 {

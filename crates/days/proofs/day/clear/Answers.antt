@@ -1,14 +1,11 @@
 -- `clear` meets its contract: the words before the part at hand are zero, and the others as they were.
-use mathlib.Core.Path.{◌≡◌, refl, sym, ap, ap₂, ◌∙◌}
+use mathlib.Core.Path.{◌≡◌, sym, ap, ap₂, ◌∙◌}
 use mathlib.Core.List.{List, ◌++◌, append_assoc}
 use Prim.Native.Nat.{ℕ, ◌+◌, ◌-◌, ◌≤◌}
 use native.Mathlib.Omega.{arith}
 use lib.ListN.{length, take, drop, replicate, length-append, length-drop, length-replicate, replicate-append-replicate}
 use lib.Seq.{length-take-le, take_at, drop_at, drop-drop}
-use borrow.Author.Rules.{rules}
-use borrow.Author.Fill.{fill_none}
 use borrow.Rule.Slice.PartMut.{put_mid}
-use Rattle.sets.proofs.Tables.{fill-all}
 use Rattle.days.proofs.day.clear.Goals as goal
 
 -- one part more is zero
@@ -24,15 +21,9 @@ more at end lent words part l h e w p =
     ∙ sym (append_assoc (replicate at 0) (replicate (end - at) 0) (drop end lent))
     ∙ ap (λ (x : List ℕ). x ++ drop end lent) (replicate-append-replicate at (end - at) 0 ∙ ap (λ (k : ℕ). replicate k 0) sum)
 
-pub loop-at-init : goal.loop-at-init
-loop-at-init c = (search rules, refl, fill_none _ 0)
-
 pub loop-at-preserved : goal.loop-at-preserved
 loop-at-preserved c =
     let p = c.part_end-end.ensures in
     let lent = c.args.words.now in
     let e = more c.loop-at.at c.part_end-end.result lent c.loop-at.words _ (omega (arith, p)) (omega (arith, p, c.loop-at.invariant.1)) c.loop-at.invariant.1 c.loop-at.invariant.2 (c.fill.ensures.after (λ y e. e)) in
     (omega (arith, p, c.loop-at.invariant.1), ap length e ∙ length-append (replicate c.part_end-end.result 0) _ ∙ omega (arith, length-replicate {A = ℕ} c.part_end-end.result 0, length-drop c.part_end-end.result lent, p, c.loop-at.invariant.1), e)
-
-pub returns : goal.returns
-returns c = c.loop-at.invariant.2 ∙ fill-all 0 c.loop-at.at c.args.words.now (omega arith)

@@ -10,7 +10,6 @@ use Rattle.sets.specs.Bytes.{Bytes}
 use Rattle.records.specs.Limits.{words_for}
 use Rattle.records.specs.declared.record.Record.{Record}
 use Rattle.records.specs.Records.{size_of, kind_of, decode}
-use Rattle.records.proofs.Records.{size-pos}
 use Rattle.records.proofs.Verdicts.{rest-is}
 use Rattle.days.specs.Days.{day_of}
 use Rattle.days.specs.Filling.{Admissible}
@@ -47,9 +46,6 @@ size c r k e f = f ∙ ap (λ (x : Record). size_of (kind_of x)) (sym (same-reco
 fits : (c : goal.After-decode) (r : Record) (k : ℕ) → c.decode.result ≡ Ok r → k ≡ size_of (kind_of r) → c.loop-at.at + k ≤ length c.args.log.now
 fits c r k e f = rw (size c r k e f) (finds c).fits
 
-pub slice_bounds-clear-end-2 : goal.slice_bounds-clear-end-2
-slice_bounds-clear-end-2 c = sym (length-take-le _ _ c.requires.1)
-
 pub loop-at-init : goal.loop-at-init
 loop-at-init c = (refl, filling-start _ _ _ _ _ (bytes (goal.at.loop-at-init c).After-shared_slice_known-1) c.requires.0 (cleared (goal.at.loop-at-init c).After-clear))
 
@@ -61,17 +57,6 @@ mark_record-requires c =
     let p = c.requires in
     let at = (goal.at.mark_record-requires c).After-decode in
     fitting p.0 (omega arith) (subst (Admissible _ _) (same-record at _ c.in-Ok.is) (finds at).admissible)
-
-pub overflow_add-at : goal.overflow_add-at
-overflow_add-at c =
-    let at = (goal.at.overflow_add-at c).After-decode in
-    omega (arith, fits at _ _ c.in-Ok.is (c.size_of-at.ensures ∙ ap size_of c.kind_of.ensures))
-
-pub loop-at-smaller : goal.loop-at-smaller
-loop-at-smaller c =
-    let at = (goal.at.loop-at-smaller c).After-decode in
-    let e = c.size_of-at.ensures ∙ ap size_of c.kind_of.ensures in
-    omega (arith, fits at _ _ c.in-Ok.is e, size at _ _ c.in-Ok.is e, size-pos (kind_of (finds at).r))
 
 pub loop-at-preserved : goal.loop-at-preserved
 loop-at-preserved c =

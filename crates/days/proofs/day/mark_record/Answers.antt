@@ -1,24 +1,12 @@
 -- mark_record meets its contract: a contact by mark_contact, and any other record because it covers nothing.
-use mathlib.Core.Path.{◌≡◌, refl, sym, subst}
+use mathlib.Core.Path.{◌≡◌, refl}
 use mathlib.Core.Bool.{false}
 use Prim.Native.Nat.{ℕ}
-use lib.ListN.{length}
 use Rattle.records.specs.declared.record.Record.{Record}
 use Rattle.records.specs.declared.record.Record.TheVariants.{Header, Contact, End}
 use Rattle.records.specs.Meaning.{covers}
-use Rattle.days.specs.Filling.{Fitting, Marks}
 use Rattle.days.proofs.Marking.{marks-none}
 use Rattle.days.proofs.day.mark_record.Goals as goal
-
-pub mark_contact-requires : goal.mark_contact-requires
-mark_contact-requires c =
-    subst (λ (r : Record). Fitting c.args.n (length c.args.words.now) r) c.in-Contact.is c.requires
-
-pub returns-in-Contact : goal.returns-in-Contact
-returns-in-Contact c =
-    let a = c.args in
-    subst (λ (r : Record). Marks a.n r a.words.now c.mark_contact.new.words) (sym c.in-Contact.is)
-    c.mark_contact.ensures
 
 -- a record that is no contact covers nothing
 covers-none : (r : Record) (t u v : ℕ) → ((a b first last : ℕ) → r ≡ Contact a b first last → ⊥) → covers r t u v ≡ false

@@ -7,7 +7,7 @@ use lib.ListN.{length, drop, length-drop}
 use Rattle.records.specs.Limits.{words_for}
 use Rattle.records.proofs.Verdicts.{rest-is}
 use Rattle.days.specs.Days.{day_of}
-use Rattle.days.proofs.SeriesLoops.{Lies, put_back, Filling, filling-none, filling-long, words-fit, next-accepts, filling-next, filling-done}
+use Rattle.days.proofs.SeriesLoops.{Lies, put_back, Filling, filling-none, words-fit, next-accepts, filling-next, filling-done}
 use Rattle.days.proofs.several.fill_all.Goals as goal
 use Rattle.days.proofs.several.fill_all.Goals.{After-end_of-end}
 
@@ -21,26 +21,8 @@ fits c = words-fit c.loop-length.invariant (lies c).there
 pub loop-length-init : goal.loop-length-init
 loop-length-init c = filling-none c.requires
 
-pub offset_bounds-words-from : goal.offset_bounds-words-from
-offset_bounds-words-from c = omega (arith, fits (goal.at.offset_bounds-words-from c).After-end_of-end, filling-long c.loop-length.invariant)
-
-pub slice_bounds-fill-count-in-loop-length : goal.slice_bounds-fill-count-in-loop-length
-slice_bounds-fill-count-in-loop-length c = omega (arith, fits (goal.at.slice_bounds-fill-count-in-loop-length c).After-end_of-end, filling-long c.loop-length.invariant)
-
-pub slice_bounds-fill-start-in-loop-length : goal.slice_bounds-fill-start-in-loop-length
-slice_bounds-fill-start-in-loop-length c = omega (arith, fits (goal.at.slice_bounds-fill-start-in-loop-length c).After-end_of-end, filling-long c.loop-length.invariant)
-
 pub fill-requires : goal.fill-requires
 fill-requires c = (next-accepts c.loop-length.invariant (lies (goal.at.fill-requires c).After-end_of-end), rw (rest-is c.loop-length.words c.loop-length.from, length-drop) (omega (arith, fits (goal.at.fill-requires c).After-end_of-end)))
-
-pub overflow_mul-from : goal.overflow_mul-from
-overflow_mul-from c = omega (arith, fits (goal.at.overflow_mul-from c).After-end_of-end, filling-long c.loop-length.invariant)
-
-pub overflow_mul-from-in-loop-length : goal.overflow_mul-from-in-loop-length
-overflow_mul-from-in-loop-length c = omega (arith, fits (goal.at.overflow_mul-from-in-loop-length c).After-end_of-end, filling-long c.loop-length.invariant)
-
-pub overflow_add-from : goal.overflow_add-from
-overflow_add-from c = omega (arith, fits (goal.at.overflow_add-from c).After-end_of-end, filling-long c.loop-length.invariant)
 
 pub loop-length-preserved : goal.loop-length-preserved
 loop-length-preserved c =
@@ -49,9 +31,6 @@ loop-length-preserved c =
     subst (λ (w : List ℕ). Filling a.logs.now a.lengths.now a.size.badges a.size.ticks a.words.now w c.end_of-end.result (l.from + words_for a.size.badges a.size.ticks) (l.length-index + 1))
     (sym (put_back l.from l.words _))
     (filling-next l.invariant (lies (goal.at.loop-length-preserved c).After-end_of-end) _ (λ rs e. c.fill.ensures rs e ∙ ap (λ (w : List ℕ). day_of rs ++ drop (words_for a.size.badges a.size.ticks) w) (rest-is l.words l.from)))
-
-pub shape_of-words : goal.shape_of-words
-shape_of-words c = filling-long c.loop-length.invariant
 
 pub returns : goal.returns
 returns c = filling-done c.loop-length.invariant (omega arith)

@@ -1,11 +1,10 @@
 -- `judge_all` meets its contract: at each log those before it are accepted, and what is known of their sizes is theirs.
 use Rattle.std.proofs.Common.{◌≡◌, sym, ap, ◌∙◌, List, ℕ, ◌-◌, take, drop}
 use Rattle.std.proofs.lemmas.Result.{err_from_is_err_and}
-use lib.Seq.{length-take-le}
 use Rattle.records.specs.Judging.{start, judge_from}
 use Rattle.records.specs.Verdicts.{verdict_outcome, verdict_of}
 use Rattle.days.specs.SeriesSteps.{common_of}
-use Rattle.days.proofs.SeriesLoops.{Lies, end-inside, lies-part, judging-none, judging-refused, judging-next, judging-done, sizes-refused, sizes-accepted}
+use Rattle.days.proofs.SeriesLoops.{Lies, lies-part, judging-none, judging-refused, judging-next, judging-done, sizes-refused, sizes-accepted}
 use Rattle.days.proofs.ReadCall.{verdict-refused, valued}
 use Rattle.days.proofs.several.judge_all.Goals as goal
 use Rattle.days.proofs.several.judge_all.Goals.{After-end_of-end, After-judge_from}
@@ -16,12 +15,6 @@ lies c = record { inside = c.loop-length.invariant.place; there = c.loop-length-
 
 pub loop-length-init : goal.loop-length-init
 loop-length-init c = judging-none _ _
-
-pub end_of-end-requires : goal.end_of-end-requires
-end_of-end-requires c = c.loop-length.invariant.place
-
-pub slice_bounds-judge_from-end : goal.slice_bounds-judge_from-end
-slice_bounds-judge_from-end c = sym (length-take-le _ _ (end-inside (lies (goal.at.slice_bounds-judge_from-end c).After-end_of-end)))
 
 -- what judging it tells is told of its own bytes
 told : (c : goal.After-judge_from) → let at = c.loop-length.at in
