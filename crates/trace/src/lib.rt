@@ -2,11 +2,9 @@
 
 #![tactic(auto)]
 
-mod answer;
 mod refusal;
 mod sweeping;
 mod tracing;
 
-pub use answer::Written;
 pub use refusal::Refusal;
 pub use tracing::trace;

@@ -1,8 +1,11 @@
 // Why a trace is refused: the refusals of the log part, and its own.
 ghost use Rattle.std.specs.Prelude.{◌≡◌};
+ghost use Rattle.trace.specs.declared.refusal.Refusal.TheVariants.{Log};
 ghost use Rattle.trace.specs.Refusals.{number_of, offset_of};
 
-#[derive(Clone, Copy)]
+use logs::Reason;
+
+#[derive(Clone, Copy, Debug, PartialEq, Eq)]
 pub enum Refusal {
     // One that the log part gives: 8 to 11.
     Log(logs::Refusal),
@@ -10,21 +13,27 @@ pub enum Refusal {
     InvalidStart,
 }
 
-impl Refusal {
-    // The number of a refusal in the papers.
-    pub fn number(self) -> u8
-        ensures { result ≡ number_of self }
-    {
+impl From<logs::Refusal> for Refusal {
+    ghost from_gives = { λ refusal result. result ≡ Log refusal };
+
+    fn from(refusal: logs::Refusal) -> Refusal {
+        Refusal::Log(refusal)
+    }
+}
+
+impl Reason for Refusal {
+    ghost number = { number_of };
+
+    ghost offset = { offset_of };
+
+    fn number(self) -> u8 {
         match self {
             Refusal::Log(refusal) => refusal.number(),
             Refusal::InvalidStart => 22,
         }
     }
 
-    // The byte offset that goes with it.
-    pub fn offset(self) -> usize
-        ensures { result ≡ offset_of self }
-    {
+    fn offset(self) -> usize {
         match self {
             Refusal::Log(refusal) => refusal.offset(),
             Refusal::InvalidStart => 0,

@@ -7,10 +7,9 @@ ghost use Rattle.trace.specs.Refusals.{written_outcome};
 ghost use Rattle.trace.specs.Calls.{trace_of};
 ghost use Rattle.trace.specs.Tracing.{Traced};
 
-use crate::answer::Written;
 use crate::refusal::Refusal;
 use crate::sweeping::sweep;
-use logs::{Checked, check_words};
+use logs::check_words;
 
 // Puts the trace of a day whose words have passed into the buffer that is lent: judged by 22 and 9. It has 2n bytes, so 9 is judged before anything is
 // worked out.
@@ -21,23 +20,23 @@ fn trace_day(
     index: usize,
     start: usize,
     buffer: &mut [u8],
-) -> Written
+) -> Result<usize, Refusal>
     requires { LentDay badges ticks words.now }
     ensures answer { written_outcome result ≡ (deliver (start_judged badges ticks words.now index start) buffer.old).answer }
     ensures leaves { buffer.new ≡ (deliver (start_judged badges ticks words.now index start) buffer.old).buffer }
 {
     if badges <= index {
-        return Written::Refused(Refusal::InvalidStart);
+        return Err(Refusal::InvalidStart);
     }
     if ticks <= start {
-        return Written::Refused(Refusal::InvalidStart);
+        return Err(Refusal::InvalidStart);
     }
     let size = badges + badges;
     if buffer.len() < size {
-        return Written::Refused(Refusal::Log(logs::Refusal::BufferTooShort));
+        return Err(Refusal::Log(logs::Refusal::BufferTooShort));
     }
     sweep(&mut buffer[..size], words, badges, ticks, index, start);
-    Written::Bytes(size)
+    Ok(size)
 }
 
 // Puts the trace from an index badge and a start tick on into the buffer that is lent: for each badge the earliest tick in which it can have been
@@ -50,13 +49,11 @@ pub fn trace(
     index: usize,
     start: usize,
     buffer: &mut [u8],
-) -> Written
+) -> Result<usize, Refusal>
     ensures answer { written_outcome result ≡ (trace_of badges ticks words.now index start buffer.old).answer }
     ensures leaves { buffer.new ≡ (trace_of badges ticks words.now index start buffer.old).buffer }
     ensures trace { Traced badges ticks words.now index start (written_outcome result) buffer.new }
 {
-    match check_words(words, badges, ticks) {
-        Checked::Refused(refusal) => Written::Refused(Refusal::Log(refusal)),
-        Checked::Day => trace_day(words, badges, ticks, index, start, buffer),
-    }
+    check_words(words, badges, ticks)?;
+    trace_day(words, badges, ticks, index, start, buffer)
 }
