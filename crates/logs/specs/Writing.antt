@@ -1,5 +1,5 @@
 -- What the parts of writing leave in the buffer. Private functions cite them; no promise rests on them.
-use Rattle.std.specs.Prelude.{◌≡◌, List, ◌++◌, ℕ, suc, ◌+◌, ◌*◌, ◌≤◌, min, length, take}
+use Rattle.std.specs.Prelude.{◌≡◌, List, ◌++◌, ℕ, ◌+◌, ◌*◌, ◌<◌, ◌≤◌, length, take, Option, Some, None}
 use Rattle.records.specs.declared.record.Record.{Record}
 use Rattle.records.specs.Limits.{max_badges, max_ticks, max_contacts, max_log_bytes, words_for}
 use Rattle.records.specs.Records.{encode_all}
@@ -12,24 +12,34 @@ pub record Writable (n T : ℕ) (ws : List ℕ) : Type 0 where
   pub short : T ≤ max_ticks
   pub enough : words_for n T ≤ length ws
 
--- a buffer that holds any log, and the number of contact records in it, counted up to one too many
+-- a buffer that holds any log, and the number of contact records in it
 pub record Roomy (count : ℕ) (buffer : List ℕ) : Type 0 where
-  pub counted : count ≤ suc max_contacts
+  pub counted : count ≤ max_contacts
   pub long : max_log_bytes ≤ length buffer
 
 -- where the record after so many contact records starts
 abbrev pub offset_after : ℕ → ℕ
 offset_after count = 4 + 6 * count
 
--- Contact records are appended to so many that are in a buffer: they are counted, up to one too many, and encoded after the others
--- as long as there are not too many.
-pub record Appends (cs : List Record) (count count' : ℕ) (buffer buffer' : List ℕ) : Type 0 where
-  pub number : count' ≡ min (suc max_contacts) (count + length cs)
-  pub bytes : count' ≤ max_contacts → take (offset_after count') buffer' ≡ take (offset_after count) buffer ++ encode_all cs
+-- contact records are appended to so many that are in a buffer: they are counted, not too many, and encoded after the others
+pub record Appended (cs : List Record) (count count' : ℕ) (buffer buffer' : List ℕ) : Type 0 where
+  pub number : count' ≡ count + length cs
+  pub few : count' ≤ max_contacts
+  pub bytes : take (offset_after count') buffer' ≡ take (offset_after count) buffer ++ encode_all cs
 
--- the number of contact records of a day's tidy log, up to one too many, and the log, as long as there are not too many, in a buffer that
--- holds any log
-pub record Encodes (n T : ℕ) (ws : List ℕ) (count : ℕ) (buffer : List ℕ) : Type 0 where
-  pub number : count ≡ min (suc max_contacts) (length (tidy_contacts n T (adjacent n ws)))
-  pub bytes : count ≤ max_contacts → take (10 + 6 * count) buffer ≡ tidy_log n T (adjacent n ws)
+-- they are appended and the number of them all is answered, or they would be too many
+abbrev pub Appends : List Record → ℕ → Option ℕ → List ℕ → List ℕ → Type 0
+Appends cs count (Some count') buffer buffer' = Appended cs count count' buffer buffer'
+Appends cs count None buffer buffer' = max_contacts < count + length cs
+
+-- the number of contact records of a day's tidy log, not too many, and the log, in a buffer that holds any log
+pub record Encoded (n T : ℕ) (ws : List ℕ) (count : ℕ) (buffer : List ℕ) : Type 0 where
+  pub number : count ≡ length (tidy_contacts n T (adjacent n ws))
+  pub few : count ≤ max_contacts
+  pub bytes : take (10 + 6 * count) buffer ≡ tidy_log n T (adjacent n ws)
   pub long : max_log_bytes ≤ length buffer
+
+-- the log is encoded and the number of its contact records is answered, or they would be too many
+abbrev pub Encodes : ℕ → ℕ → List ℕ → Option ℕ → List ℕ → Type 0
+Encodes n T ws (Some count) buffer = Encoded n T ws count buffer
+Encodes n T ws None buffer = max_contacts < length (tidy_contacts n T (adjacent n ws))

@@ -16,9 +16,7 @@ pub fn put(buffer: &mut [u8], at: usize, bytes: &[u8])
     if buffer.len() - bytes.len() < at {
         return;
     }
-    for i in 0..bytes.len() {
-        buffer[at + i] = bytes[i];
-    }
+    buffer[at..at + bytes.len()].copy_from_slice(bytes);
 }
 
 // Puts a record, in its bytes, at an offset. Where the buffer does not hold it there, it stays as it is.
@@ -35,23 +33,14 @@ pub fn put_record(buffer: &mut [u8], at: usize, record: Record)
             put(buffer, at, &bytes);
         }
         Record::End { count } => {
-            let second = count / 256;
-            let third = second / 256;
-            let fourth = third / 256;
-            let bytes = [
-                b'E',
-                b'D',
-                (count % 256) as u8,
-                (second % 256) as u8,
-                (third % 256) as u8,
-                (fourth % 256) as u8,
-            ];
+            let [lowest, second, third, highest] = count.to_le_bytes();
+            let bytes = [b'E', b'D', lowest, second, third, highest];
             put(buffer, at, &bytes);
         }
     }
 }
 
-// Appends a contact record to the count that are in a log's buffer, and answers how many there are then: 8,001 stands for too many.
+// Appends a contact record to the count that are in a log's buffer, and answers how many there are then: none where it would be one too many.
 pub(crate) fn append_contact(
     buffer: &mut [u8],
     count: usize,
@@ -59,13 +48,13 @@ pub(crate) fn append_contact(
     b: u8,
     first: u8,
     last: u8,
-) -> usize
+) -> Option<usize>
     requires { Roomy count buffer.old }
     ensures { Appends (Record.Contact a b first last ∷ []) count result buffer.old buffer.new }
 {
     if MAX_CONTACTS <= count {
-        return MAX_CONTACTS + 1;
+        return None;
     }
     put_record(buffer, 4 + 6 * count, Record::Contact { a, b, first, last });
-    count + 1
+    Some(count + 1)
 }

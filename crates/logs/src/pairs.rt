@@ -12,7 +12,7 @@ use crate::ticks::TickSet;
 use sets::{CAPACITY, WORD_BITS};
 
 // Appends the runs of u and v, which meet in the ticks of a set: from the first tick of a run to the one after its last, and on to the
-// next run's first.
+// next run's first. (Here and below the answer is the count of contact records then; none where there are too many.)
 fn append_pair(
     met: TickSet,
     ticks: usize,
@@ -20,7 +20,7 @@ fn append_pair(
     v: usize,
     buffer: &mut [u8],
     count: usize,
-) -> usize
+) -> Option<usize>
     requires { Roomy count buffer.old × (u < max_badges) × (v < max_badges) × (ticks ≤ max_ticks) × TicksBelow ticks met }
     ensures { Appends (runs_of ticks (has_tick met) u v) count result buffer.old buffer.new }
 {
@@ -29,12 +29,10 @@ fn append_pair(
     while first < ticks {
         let end = met.first_outside(first);
         let last = end - 1;
-        let appended = append_contact(buffer, so_far, u as u8, v as u8, first as u8, last as u8);
-        let next = met.first_in(end);
-        so_far = appended;
-        first = next;
+        so_far = append_contact(buffer, so_far, u as u8, v as u8, first as u8, last as u8)?;
+        first = met.first_in(end);
     }
-    so_far
+    Some(so_far)
 }
 
 // Appends the runs of u and each larger badge. The ticks of all these pairs are gathered first, so a pair costs little more than its runs.
@@ -45,7 +43,7 @@ pub(crate) fn append_row(
     u: usize,
     buffer: &mut [u8],
     count: usize,
-) -> usize
+) -> Option<usize>
     requires { Writable n ticks words.now × Roomy count buffer.old × (u < n) }
     ensures { Appends (row_runs n ticks (adjacent n words.now) u) count result buffer.old buffer.new }
 {
@@ -60,8 +58,7 @@ pub(crate) fn append_row(
             low: lows[v],
             high: highs[v],
         };
-        let appended = append_pair(met, ticks, u, v, buffer, so_far);
-        so_far = appended;
+        so_far = append_pair(met, ticks, u, v, buffer, so_far)?;
     }
-    so_far
+    Some(so_far)
 }

@@ -1,7 +1,7 @@
 // Sets of ticks, for the ticks in which a pair meets.
 ghost use Rattle.std.specs.Prelude.{◌≡◌, ◌<◌};
 ghost use Rattle.sets.specs.Bools.{isnt};
-ghost use Rattle.sets.specs.Sets.{has, difference, full};
+ghost use Rattle.sets.specs.Sets.{has};
 ghost use Rattle.sets.specs.Words.{word_bits};
 ghost use Rattle.logs.specs.TickSets.{has_tick, tick_capacity, First};
 
@@ -20,13 +20,6 @@ fn first_bit(word: u64, from: usize) -> usize
     ensures { First (has word) from word_bits result }
 {
     u64::trailing_zeros(word - (word & ((1 << from) - 1))) as usize
-}
-
-// The bits that are 0.
-fn complement(word: u64) -> u64
-    ensures { result ≡ difference (full word_bits) word }
-{
-    0xffff_ffff_ffff_ffff - word
 }
 
 impl TickSet {
@@ -51,8 +44,8 @@ impl TickSet {
         ensures { First (λ t. isnt (has_tick self t)) from tick_capacity result }
     {
         let others = TickSet {
-            low: complement(self.low),
-            high: complement(self.high),
+            low: !self.low,
+            high: !self.high,
         };
         others.first_in(from)
     }

@@ -8,7 +8,7 @@ ghost use Rattle.logs.specs.Calls.{write_of, written_outcome};
 use crate::encoding::{put, put_record};
 use crate::pairs::append_row;
 use checks::check_words;
-use records::{MAX_CONTACTS, MAX_LOG_BYTES, Record, Refusal};
+use records::{MAX_LOG_BYTES, Record, Refusal};
 
 // Puts an answer, in its bytes, into the buffer that is lent, if the buffer holds it, and answers how many they are. Refused by 9, and then no byte is changed; bytes after
 // the answer are never touched.
@@ -24,14 +24,14 @@ pub fn deliver(bytes: &[u8], buffer: &mut [u8]) -> Result<usize, Refusal>
     Ok(bytes.len())
 }
 
-// Encodes the tidy log of a day's words in a buffer that holds any log, and answers how many contact records it has: 8,001 stands for too
+// Encodes the tidy log of a day's words in a buffer that holds any log, and answers how many contact records it has: none where they are too
 // many, and the log is then not whole.
 pub(crate) fn encode_day(
     words: &[u64],
     n: usize,
     ticks: usize,
     log: &mut [u8; MAX_LOG_BYTES],
-) -> usize
+) -> Option<usize>
     requires { Writable n ticks words.now }
     ensures { Encodes n ticks words.now result log.new }
 {
@@ -45,11 +45,7 @@ pub(crate) fn encode_day(
     );
     let mut count: usize = 0;
     for u in 0..n {
-        let appended = append_row(words, n, ticks, u, log, count);
-        count = appended;
-    }
-    if MAX_CONTACTS < count {
-        return count;
+        count = append_row(words, n, ticks, u, log, count)?;
     }
     put_record(
         log,
@@ -58,7 +54,7 @@ pub(crate) fn encode_day(
             count: count as u32,
         },
     );
-    count
+    Some(count)
 }
 
 // Writes a day's words as a tidy log into the buffer that is lent, and answers the number of bytes. Refused by 10, 8, 11, 15 and 9, in that
@@ -75,9 +71,8 @@ pub fn write(
 {
     check_words(words, badges, ticks)?;
     let mut log = [0u8; MAX_LOG_BYTES];
-    let count = encode_day(words, badges, ticks, &mut log);
-    if count > MAX_CONTACTS {
+    let Some(count) = encode_day(words, badges, ticks, &mut log) else {
         return Err(Refusal::TooManyToWrite);
-    }
+    };
     deliver(&log[..10 + 6 * count], buffer)
 }

@@ -6,6 +6,5 @@ mod refusal;
 mod sweeping;
 mod tracing;
 
-pub use logs::Reason;
 pub use refusal::Refusal;
 pub use tracing::trace;

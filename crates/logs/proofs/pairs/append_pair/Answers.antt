@@ -5,7 +5,7 @@ use Prim.Native.Nat.{◌<◌}
 use native.Mathlib.Omega.{arith}
 use Rattle.logs.specs.TickSets.{tick_capacity, has_tick}
 use Rattle.logs.proofs.PairRuns.{RunTo, from_start, from_end, run-to}
-use Rattle.logs.proofs.Appending.{appends-none, runs_none, runs-more, runs-all}
+use Rattle.logs.proofs.Appending.{appends-none, runs_none, runs-more, runs-many, runs-all}
 use Rattle.logs.proofs.pairs.append_pair.Goals as goal
 use Rattle.logs.proofs.pairs.append_pair.Goals.{After-first_outside-end}
 
@@ -28,24 +28,30 @@ overflow_sub-last c = omega (arith, (here (goal.at.overflow_sub-last c).After-fi
 pub overflow_cast-last : goal.overflow_cast-last
 overflow_cast-last c = omega (arith, (here (goal.at.overflow_cast-last c).After-first_outside-end).inside)
 
-pub append_contact-appended-requires : goal.append_contact-appended-requires
-append_contact-appended-requires c = record { counted = omega (arith, c.loop-first.invariant.3.number); long = omega arith }
+pub append_contact-requires : goal.append_contact-requires
+append_contact-requires c = record { counted = c.loop-first.invariant.3.few; long = omega arith }
 
-pub first_in-next-requires : goal.first_in-next-requires
-first_in-next-requires c = omega (arith, (here (goal.at.first_in-next-requires c).After-first_outside-end).inside)
+pub first_in-first-requires-in-loop-first : goal.first_in-first-requires-in-loop-first
+first_in-first-requires-in-loop-first c = omega (arith, (here (goal.at.first_in-first-requires-in-loop-first c).After-first_outside-end).inside)
 
 pub loop-first-smaller : goal.loop-first-smaller
 loop-first-smaller c =
     let r = here (goal.at.loop-first-smaller c).After-first_outside-end in
-    omega (arith, r.rising, r.inside, c.first_in-next.ensures.low, c.first_in-next.ensures.high)
+    omega (arith, r.rising, r.inside, c.first_in-first-in-loop-first.ensures.low, c.first_in-first-in-loop-first.ensures.high)
 
 pub loop-first-preserved : goal.loop-first-preserved
 loop-first-preserved c =
     let o = (goal.at.loop-first-preserved c).After-first_outside-end in
     let i = o.loop-first.invariant in
     let l : c.args.ticks < tick_capacity = omega arith in
-    let f = c.first_in-next.ensures in
-    (f.high, omega arith, from_end _ _ l (here o) f, runs-more c.args.ticks (has_tick c.args.met) c.args.u c.args.v (here o) f i.3 c.append_contact-appended.ensures)
+    let f = c.first_in-first-in-loop-first.ensures in
+    (f.high, omega arith, from_end _ _ l (here o) f, runs-more c.args.ticks (has_tick c.args.met) c.args.u c.args.v (here o) f i.3 c.in_ok-so_far.ensures)
+
+pub returns-in_err-so_far : goal.returns-in_err-so_far
+returns-in_err-so_far c =
+    let a = c.args in
+    let o = (goal.at.returns-in_err-so_far c).After-first_outside-end in
+    rw c.from_residual.ensures (runs-many a.ticks (has_tick a.met) a.u a.v (here o) o.loop-first.invariant.3 c.in_err-so_far.ensures)
 
 pub returns : goal.returns
 returns c =

@@ -6,14 +6,14 @@ use lib.ListN.{length}
 use Rattle.sets.specs.Tables.{concat_below}
 use Rattle.logs.specs.Tidy.{run_at}
 use Rattle.logs.specs.TickSets.{tick_capacity, has_tick}
-use Rattle.logs.specs.Writing.{Appends}
+use Rattle.logs.specs.Writing.{Appended}
 use Rattle.logs.proofs.PairRuns.{RunFrom}
 use Rattle.logs.proofs.pairs.append_pair.Given as goal
 
 abbrev pub invariant-loop-first : goal.invariant-loop-first
 invariant-loop-first l =
     (l.first ≤ tick_capacity) × (length l.buffer ≡ length l.initial.buffer) × RunFrom l.ticks (has_tick l.met) l.first
-    × Appends (concat_below l.first (run_at l.ticks (has_tick l.met) l.u l.v)) l.count l.so_far l.initial.buffer l.buffer
+    × Appended (concat_below l.first (run_at l.ticks (has_tick l.met) l.u l.v)) l.count l.so_far l.initial.buffer l.buffer
 
 abbrev pub decreases-loop-first : goal.decreases-loop-first
 decreases-loop-first l = tick_capacity - l.first

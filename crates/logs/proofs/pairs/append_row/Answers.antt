@@ -11,7 +11,7 @@ use Rattle.logs.specs.TickSets.{has_tick, TicksBelow}
 use Rattle.logs.specs.declared.ticks.TickSet.{TickSet}
 use Rattle.logs.proofs.Gathering.{tick-in, tick-below}
 use Rattle.logs.proofs.PairRuns.{runs_same}
-use Rattle.logs.proofs.Appending.{appends-none, row-none, row_more}
+use Rattle.logs.proofs.Appending.{appends-none, row-none, row_more, row-many}
 use Rattle.logs.proofs.pairs.append_row.Goals as goal
 use Rattle.logs.proofs.pairs.append_row.Goals.{In-loop-v}
 
@@ -36,13 +36,13 @@ loop-v-init c =
     let a = c.args in
     (search rules, search rules, refl, rw (row-none a.ticks (adjacent a.n a.words.now) a.u) (appends-none _ _ (omega arith)))
 
-pub append_pair-appended-requires : goal.append_pair-appended-requires
-append_pair-appended-requires c = (
-  record { counted = omega (arith, c.loop-v.invariant.3.number); long = omega arith },
+pub append_pair-requires : goal.append_pair-requires
+append_pair-requires c = (
+  record { counted = c.loop-v.invariant.3.few; long = omega arith },
   search rules,
   search rules,
   search rules,
-  met-below (goal.at.append_pair-appended-requires c).In-loop-v,
+  met-below (goal.at.append_pair-requires c).In-loop-v,
 )
 
 pub loop-v-preserved : goal.loop-v-preserved
@@ -52,7 +52,17 @@ loop-v-preserved c =
     let a = e.args in
     let r = adjacent a.n a.words.now in
     let same = runs_same a.ticks (has_tick (met e)) (λ t. r t a.u i.v) (met-in e) a.u i.v in
-    (search rules, search rules, omega arith, row_more a.ticks r a.u i.v (omega arith) i.invariant.3 (rw same at c.append_pair-appended.ensures))
+    (search rules, search rules, omega arith, row_more a.ticks r a.u i.v (omega arith) i.invariant.3 (rw same at c.in_ok-so_far.ensures))
+
+pub returns-in_err-so_far : goal.returns-in_err-so_far
+unfolding row_runs
+returns-in_err-so_far c =
+    let e = (goal.at.returns-in_err-so_far c).In-loop-v in
+    let i = e.loop-v in
+    let a = e.args in
+    let r = adjacent a.n a.words.now in
+    let same = runs_same a.ticks (has_tick (met e)) (λ t. r t a.u i.v) (met-in e) a.u i.v in
+    rw c.from_residual.ensures (row-many a.ticks r a.u i.v (omega arith) a.n (omega arith) i.invariant.3 (rw same at c.in_err-so_far.ensures))
 
 pub returns : goal.returns
 unfolding row_runs

@@ -5,10 +5,10 @@ use Prim.Native.Nat.{◌≤◌}
 use lib.ListN.{length}
 use Rattle.sets.specs.Tables.{concat_below}
 use Rattle.days.specs.Days.{adjacent}
-use Rattle.logs.specs.Writing.{Appends}
+use Rattle.logs.specs.Writing.{Appended}
 use Rattle.logs.proofs.Appending.{larger_runs}
 use Rattle.logs.proofs.pairs.append_row.Given as goal
 
 abbrev pub invariant-loop-v : goal.invariant-loop-v
 invariant-loop-v l =
-    (l.larger ≤ l.v) × (l.v ≤ l.n) × (length l.buffer ≡ length l.initial.buffer) × Appends (concat_below l.v (larger_runs l.ticks (adjacent l.n l.words) l.u)) l.count l.so_far l.initial.buffer l.buffer
+    (l.larger ≤ l.v) × (l.v ≤ l.n) × (length l.buffer ≡ length l.initial.buffer) × Appended (concat_below l.v (larger_runs l.ticks (adjacent l.n l.words) l.u)) l.count l.so_far l.initial.buffer l.buffer

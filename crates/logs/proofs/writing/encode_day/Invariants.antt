@@ -5,9 +5,9 @@ use lib.ListN.{length}
 use Rattle.sets.specs.Tables.{concat_below}
 use Rattle.days.specs.Days.{adjacent}
 use Rattle.logs.specs.Tidy.{row_runs}
-use Rattle.logs.specs.Writing.{Appends}
+use Rattle.logs.specs.Writing.{Appended}
 use Rattle.logs.proofs.writing.encode_day.Given as goal
 
 abbrev pub invariant-loop-u : goal.invariant-loop-u
 invariant-loop-u l =
-    (l.u ≤ l.n) × (length l.log ≡ length l.initial.log) × Appends (concat_below l.u (row_runs l.n l.ticks (adjacent l.n l.words))) 0 l.count l.initial.log l.log
+    (l.u ≤ l.n) × (length l.log ≡ length l.initial.log) × Appended (concat_below l.u (row_runs l.n l.ticks (adjacent l.n l.words))) 0 l.count l.initial.log l.log

@@ -7,31 +7,20 @@ use Rattle.records.specs.Outcomes.{success}
 use Rattle.days.specs.Calls.{check_of}
 use Rattle.days.proofs.Checks.{check-passed}
 use Rattle.logs.specs.Buffers.{Delivered}
+use Rattle.logs.specs.Writing.{Encoded}
 use Rattle.logs.proofs.Delivering.{writable}
 use Rattle.logs.proofs.Appending.{encoded-fits}
 use Rattle.logs.proofs.TidyCall.{write-refused, write-many, write-few}
 use Rattle.logs.proofs.writing.write.Goals as goal
-use Rattle.logs.proofs.writing.write.Goals.{After-deliver, After-encode_day-count, Else-count-gt-MAX_CONTACTS, In_ok-check_words}
+use Rattle.logs.proofs.writing.write.Goals.{In-Some, In_ok-check_words}
 
 -- the check passed
 passed : (c : goal.In_ok-check_words) → let a = c.args in check_of a.badges a.ticks a.words.now ≡ success tt
 passed c = sym c.in_ok-check_words.ensures
 
-pub encode_day-count-requires : goal.encode_day-count-requires
-encode_day-count-requires c = let p = check-passed _ _ _ (passed (goal.at.encode_day-count-requires c).In_ok-check_words) in writable p.limits p.enough
-
-pub returns-then-count-gt-MAX_CONTACTS : goal.returns-then-count-gt-MAX_CONTACTS
-returns-then-count-gt-MAX_CONTACTS c =
-    let s = (goal.at.returns-then-count-gt-MAX_CONTACTS c).After-encode_day-count in
-    let t = (goal.at.returns-then-count-gt-MAX_CONTACTS c).In_ok-check_words in
-    let e = write-many _ _ _ t.args.buffer.now (passed t) (omega (arith, s.encode_day-count.ensures.number, c.if-count-gt-MAX_CONTACTS.true)) in
-    record { answer = sym (ap (λ (x : Delivered). x.answer) e); leaves = sym (ap (λ (x : Delivered). x.buffer) e) }
-
-pub slice_bounds-log-end : goal.slice_bounds-log-end
-slice_bounds-log-end c = encoded-fits c.encode_day-count.ensures c.if-count-gt-MAX_CONTACTS.false _ (omega arith)
-
-pub slice_bounds-deliver-end : goal.slice_bounds-deliver-end
-slice_bounds-deliver-end c = sym (length-take-le _ _ (encoded-fits c.encode_day-count.ensures c.if-count-gt-MAX_CONTACTS.false _ (omega arith)))
+-- the tidy log is encoded
+encoded : (c : goal.In-Some) → let a = c.args in Encoded a.badges a.ticks a.words.now c.in-Some.count c.encode_day.new.log
+encoded c = c.in-Some.ensures
 
 pub returns-in_err-check_words : goal.returns-in_err-check_words
 returns-in_err-check_words c =
@@ -39,11 +28,22 @@ returns-in_err-check_words c =
     let e = write-refused _ _ _ c.args.buffer.now _ _ (sym c.in_err-check_words.ensures) in
     record { answer = rw (p.1, p.2) (sym (ap (λ (x : Delivered). x.answer) e)); leaves = sym (ap (λ (x : Delivered). x.buffer) e) }
 
+pub encode_day-requires : goal.encode_day-requires
+encode_day-requires c = let p = check-passed _ _ _ (passed (goal.at.encode_day-requires c).In_ok-check_words) in writable p.limits p.enough
+
+pub returns-in_default : goal.returns-in_default
+returns-in_default c =
+    let e = write-many _ _ _ c.args.buffer.now (passed (goal.at.returns-in_default c).In_ok-check_words) c.in_default.ensures in
+    record { answer = sym (ap (λ (x : Delivered). x.answer) e); leaves = sym (ap (λ (x : Delivered). x.buffer) e) }
+
+pub slice_bounds-log-end : goal.slice_bounds-log-end
+slice_bounds-log-end c = encoded-fits (encoded (goal.at.slice_bounds-log-end c).In-Some) _ (omega arith)
+
+pub slice_bounds-deliver-end : goal.slice_bounds-deliver-end
+slice_bounds-deliver-end c = sym (length-take-le _ _ (encoded-fits (encoded (goal.at.slice_bounds-deliver-end c).In-Some) _ (omega arith)))
+
 pub returns : goal.returns
 returns c =
-    let d = (goal.at.returns c).After-deliver in
-    let b = (goal.at.returns c).Else-count-gt-MAX_CONTACTS in
-    let s = (goal.at.returns c).After-encode_day-count in
-    let t = (goal.at.returns c).In_ok-check_words in
-    let e = write-few _ _ _ t.args.buffer.now (passed t) (omega (arith, s.encode_day-count.ensures.number, b.if-count-gt-MAX_CONTACTS.false)) (s.encode_day-count.ensures.bytes b.if-count-gt-MAX_CONTACTS.false) in
-    record { answer = d.deliver.ensures.answer ∙ sym (ap (λ (x : Delivered). x.answer) e); leaves = d.deliver.ensures.leaves ∙ sym (ap (λ (x : Delivered). x.buffer) e) }
+    let g = encoded (goal.at.returns c).In-Some in
+    let e = write-few _ _ _ c.args.buffer.now (passed (goal.at.returns c).In_ok-check_words) (omega (arith, g.number, g.few)) g.bytes in
+    record { answer = c.deliver.ensures.answer ∙ sym (ap (λ (x : Delivered). x.answer) e); leaves = c.deliver.ensures.leaves ∙ sym (ap (λ (x : Delivered). x.buffer) e) }
