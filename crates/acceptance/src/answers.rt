@@ -1,5 +1,6 @@
 // Whether the product's answers are as wanted. The product has refusals of its own, and the second implementation too: what both have in common
 // is a number and an offset.
+use logs::Reason;
 use reference::{Accepted, Bytes, Judgement};
 
 // A refusal, as the papers have it.
@@ -18,26 +19,13 @@ impl From<reference::Refusal> for Refused {
     }
 }
 
-impl From<logs::Refusal> for Refused {
-    fn from(refusal: logs::Refusal) -> Refused {
-        Refused {
-            number: usize::from(refusal.number()),
-            offset: refusal.offset(),
-        }
+// A refusal of the product, of whichever part.
+fn refusal_of<R: Reason + Copy>(refusal: R) -> Refused {
+    Refused {
+        number: usize::from(refusal.number()),
+        offset: refusal.offset(),
     }
 }
-
-impl From<groups::Refusal> for Refused {
-    fn from(refusal: groups::Refusal) -> Refused {
-        Refused {
-            number: usize::from(refusal.number()),
-            offset: refusal.offset(),
-        }
-    }
-}
-
-// What a call of the group part answers that writes.
-pub(crate) type GroupAnswer = groups::Written;
 
 // What is wanted of a call that writes: the bytes in front of its buffer, or a refusal.
 pub(crate) type Wanted = Result<Bytes, Refused>;
@@ -59,36 +47,26 @@ pub(crate) fn answer_of(wanted: &Wanted) -> Result<usize, Refused> {
 }
 
 // The answer of read.
-pub(crate) fn reads_as(got: logs::Verdict, wanted: Judgement) -> bool {
+pub(crate) fn reads_as(got: Result<logs::Accepted, logs::Refusal>, wanted: Judgement) -> bool {
     let got = match got {
-        logs::Verdict::Accepted {
-            badges,
-            ticks,
-            contacts,
-        } => Ok(Accepted {
-            badges,
-            ticks,
-            contacts,
+        Ok(log) => Ok(Accepted {
+            badges: log.badges,
+            ticks: log.ticks,
+            contacts: log.contacts,
         }),
-        logs::Verdict::Refused(refusal) => Err(Refused::from(refusal)),
+        Err(refusal) => Err(refusal_of(refusal)),
     };
     got == wanted.map_err(Refused::from)
 }
 
-// The answer of a call of the log part that writes.
-pub(crate) fn writes_log(got: logs::Written, wanted: Result<usize, Refused>) -> bool {
+// The answer of a call that writes, whichever part it is of.
+pub(crate) fn answers_as<R: Reason + Copy>(
+    got: Result<usize, R>,
+    wanted: Result<usize, Refused>,
+) -> bool {
     let got = match got {
-        logs::Written::Bytes(bytes) => Ok(bytes),
-        logs::Written::Refused(refusal) => Err(Refused::from(refusal)),
-    };
-    got == wanted
-}
-
-// The answer of a call of the group part that writes.
-pub(crate) fn writes_groups(got: GroupAnswer, wanted: Result<usize, Refused>) -> bool {
-    let got = match got {
-        groups::Written::Bytes(bytes) => Ok(bytes),
-        groups::Written::Refused(refusal) => Err(Refused::from(refusal)),
+        Ok(bytes) => Ok(bytes),
+        Err(refusal) => Err(refusal_of(refusal)),
     };
     got == wanted
 }

@@ -1,7 +1,5 @@
 // A case of each call: the answer, and every word and byte that was lent, against the second implementation.
-use crate::answers::{
-    GroupAnswer, Refused, Wanted, answer_of, bytes_of, reads_as, writes_groups, writes_log,
-};
+use crate::answers::{Refused, Wanted, answer_of, answers_as, bytes_of, reads_as};
 use groups::Thresholds;
 use reference::{
     Day, FILLER, Judgement, MAX_WORDS, PATTERN, ROOM, Span, best_plan, judge, listing, word_after,
@@ -58,13 +56,13 @@ pub(crate) fn tidies(log: &[u8]) -> bool {
     let got = logs::tidy(log, &mut words, &mut buffer);
     let judged = judge(log);
     let wanted: Wanted = day_of(&words, judged).map(|day| reference::tidy_log(&day));
-    writes_log(got, answer_of(&wanted))
+    answers_as(got, answer_of(&wanted))
         & hold(&words, log, judged)
         & holds(&buffer, bytes_of(&wanted))
 }
 
 // The text of a report that was prepared with an answer.
-fn shows(got: GroupAnswer, report: &[u8], wanted: &[u8]) -> bool {
+fn shows(got: Result<usize, groups::Refusal>, report: &[u8], wanted: &[u8]) -> bool {
     let mut buffer = lent_bytes();
     let piece = text::lines(got, report, 0, &mut buffer);
     (piece.bytes == wanted.len()) & holds(&buffer, wanted)
@@ -78,7 +76,7 @@ pub(crate) fn lists(log: &[u8]) -> bool {
     let judged = judge(log);
     let wanted: Wanted = day_of(&words, judged).map(|day| reference::report(&day));
     let text = listing(judged, bytes_of(&wanted));
-    writes_groups(got, answer_of(&wanted))
+    answers_as(got, answer_of(&wanted))
         & hold(&words, log, judged)
         & holds(&buffer, bytes_of(&wanted))
         & text.is_ok_and(|text| shows(got, &buffer, text.as_str().as_bytes()))
@@ -89,7 +87,7 @@ pub(crate) fn writes(day: &Day) -> bool {
     let mut buffer = lent_bytes();
     let got = logs::write(day.words, day.badges, day.ticks, &mut buffer);
     let wanted = reference::tidy_log(day);
-    writes_log(got, Ok(wanted.len())) & holds(&buffer, wanted.as_slice())
+    answers_as(got, Ok(wanted.len())) & holds(&buffer, wanted.as_slice())
 }
 
 // Core numbers on a span. All badges are under review in this and the other calls on words.
@@ -106,7 +104,7 @@ pub(crate) fn numbers(day: &Day, span: Span) -> bool {
         &mut buffer,
     );
     let wanted = reference::core_numbers(day, span);
-    writes_groups(got, Ok(wanted.len())) & holds(&buffer, wanted.as_slice())
+    answers_as(got, Ok(wanted.len())) & holds(&buffer, wanted.as_slice())
 }
 
 // The plain report.
@@ -116,7 +114,7 @@ pub(crate) fn reports(day: &Day) -> bool {
     let plain = Thresholds::PLAIN;
     let got = groups::report(day.words, day.badges, day.ticks, all, plain, &mut buffer);
     let wanted = reference::report(day);
-    writes_groups(got, Ok(wanted.len())) & holds(&buffer, wanted.as_slice())
+    answers_as(got, Ok(wanted.len())) & holds(&buffer, wanted.as_slice())
 }
 
 // Plan.
@@ -134,5 +132,5 @@ pub(crate) fn plans(day: &Day, query: u64, parts: usize) -> bool {
         &mut buffer,
     );
     let wanted = best_plan(day, query, parts);
-    writes_groups(got, Ok(wanted.len())) & holds(&buffer, wanted.as_slice())
+    answers_as(got, Ok(wanted.len())) & holds(&buffer, wanted.as_slice())
 }

@@ -2,7 +2,7 @@
 // the second implementation gives is written by hand, and the product has to agree with it; above 64 badges the product is held against the bytes alone.
 ghost use Rattle.std.specs.Prelude.{◌<◌};
 
-use crate::answers::{GroupAnswer, Refused, reads_as, writes_groups, writes_log};
+use crate::answers::{Refused, answers_as, reads_as};
 use crate::cases;
 use crate::long_logs::{chain, long_log};
 use groups::Thresholds;
@@ -49,8 +49,8 @@ pub(crate) fn order_63() -> Tally {
 }
 
 // Whether a call answers so many bytes, and these.
-fn gives(got: GroupAnswer, buffer: &[u8], wanted: &[u8]) -> bool {
-    writes_groups(got, Ok(wanted.len())) & buffer.starts_with(wanted)
+fn gives(got: Result<usize, groups::Refusal>, buffer: &[u8], wanted: &[u8]) -> bool {
+    answers_as(got, Ok(wanted.len())) & buffer.starts_with(wanted)
 }
 
 // Of 128 badges every order is 127, and the marks are those of wide sets.
@@ -88,7 +88,7 @@ pub(crate) fn largest_day() -> Tally {
     tally.add_case(reads_as(logs::read(log, &mut words), Ok(accepted)));
     let mut buffer = [FILLER; 128];
     let got = logs::write(&words, 128, 96, &mut buffer);
-    tally.add_case(writes_log(got, Ok(log.len())) & buffer.starts_with(log));
+    tally.add_case(answers_as(got, Ok(log.len())) & buffer.starts_with(log));
     tally
 }
 

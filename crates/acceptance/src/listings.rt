@@ -3,7 +3,7 @@
 ghost use Rattle.std.specs.Prelude.{◌≤◌};
 ghost use Rattle.acceptance.specs.declared.listings.TheConstants.{MOST_GROUPS};
 
-use crate::answers::{GroupAnswer, Refused, writes_groups};
+use crate::answers::{Refused, answers_as};
 use crate::cases::lent_words;
 use crate::long_logs::{long_log, round};
 use reference::{FILLER, Tally};
@@ -22,7 +22,7 @@ fn report_of(groups: usize) -> Result<usize, Refused>
 }
 
 // Whether the lines from a place on, as many as 80 bytes hold, are these.
-fn shows(got: GroupAnswer, report: &[u8], from: usize, wanted: &[u8]) -> bool {
+fn shows(got: Result<usize, groups::Refusal>, report: &[u8], from: usize, wanted: &[u8]) -> bool {
     let mut buffer = [FILLER; 80];
     let piece = text::lines(got, report, from, &mut buffer);
     (piece.bytes == wanted.len()) & buffer.starts_with(wanted)
@@ -35,7 +35,7 @@ fn lists(log: &[u8], wanted: Result<usize, Refused>, lines: usize, begin: &[u8],
     let mut words = lent_words();
     let mut report = [FILLER; LISTING_ROOM];
     let got = text::prepare(log, &mut words, &mut report);
-    writes_groups(got, wanted)
+    answers_as(got, wanted)
         & shows(got, &report, 0, begin)
         & shows(got, &report, lines, end)
         & shows(got, &report, lines + 1, b"")
