@@ -22,7 +22,12 @@ use thresholds::Thresholds;
 // Puts a report into the buffer that is lent: judged by 9. The cores are found and kept, and the records of their circles counted, before the buffer is
 // touched; then the records are written straight into it. There is room for a pack and a set for a core on each of 4,656 spans. What they hold first does not
 // matter: ones are put there by wide stores, where zeros would be by a call that counts a step for each byte.
-fn report_groups(words: &[u64], day: Day, least: Thresholds, buffer: &mut [u8]) -> Result<usize, Refusal>
+fn report_groups(
+    words: &[u64],
+    day: Day,
+    least: Thresholds,
+    buffer: &mut [u8],
+) -> Result<usize, Refusal>
     requires { LentDay day.badges day.ticks words.now × Review day.badges (members day.review) × (1 ≤ least.members) }
     ensures { DeliversReport day.badges day.ticks words.now (members day.review) least (written_outcome result) buffer.old buffer.new }
 {

@@ -26,7 +26,12 @@ fn judge_set(badges: usize, review: BadgeSet) -> Result<(), Refusal>
 }
 
 // Judges day words, handed over with n and T, by 10, 8 and 11, and then the badges under review by 20.
-pub(crate) fn judge_review(words: &[u64], badges: usize, ticks: usize, review: BadgeSet) -> Result<(), Refusal>
+pub(crate) fn judge_review(
+    words: &[u64],
+    badges: usize,
+    ticks: usize,
+    review: BadgeSet,
+) -> Result<(), Refusal>
     ensures { judged_outcome result ≡ review_of badges ticks words.now (members review) }
 {
     check_words(words, badges, ticks)?;

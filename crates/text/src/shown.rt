@@ -95,7 +95,12 @@ fn report_line(size: usize, report: &[u8], i: usize, line: &mut [u8]) -> usize
 }
 
 // Makes the line at a place, of those that an answer shows, and answers how many bytes it has.
-pub(crate) fn make_line(answer: Result<usize, Refusal>, report: &[u8], i: usize, line: &mut [u8]) -> usize
+pub(crate) fn make_line(
+    answer: Result<usize, Refusal>,
+    report: &[u8],
+    i: usize,
+    line: &mut [u8],
+) -> usize
     requires { (i < line_count (written_outcome answer) report.now) × (length line.old ≡ line_room) }
     ensures { Makes (get_or (shown_lines (written_outcome answer) report.now) i []) result line.new }
 {
