@@ -72,4 +72,4 @@ joinable-sum bytes ls q a b c d = same_test _ _
     (λ e. eq-eqb _ _ (joinable-of bytes ls q e).whole)
 
 -- each answer of the test is found by these
-pub ruleset test = (joinable-not, joinable-sum)
+pub ruleset eighteen = (joinable-not, joinable-sum)
