@@ -12,16 +12,21 @@ use Rattle.sets.specs.Members.{capacity}
 use Rattle.sets.specs.Tables.{keep_if}
 use Rattle.sets.proofs.Sets.{sub_refl, sub_trans, sub-lt}
 use Rattle.sets.proofs.Size.{size-le}
-use Rattle.sets.proofs.Concat.{keep-le}
-use borrow.Author.Tests.{eqb-false, not-true}
+use Rattle.sets.proofs.Concat.{keep-le, keep_all}
+use borrow.Author.Tests.{le-leb, eqb-false, not-true}
 use Rattle.circles.specs.Circles.{first_circle, circles, at_least}
 use Rattle.circles.proofs.Chains.{rest-within}
 use Rattle.circles.proofs.CircleLists.{circles-none, circles-more, circles-few, rest-less}
 
+-- one circle that has members enough
+pub one-counted : (least c : ℕ) → least ≤ size c → length (at_least least (c ∷ [])) ≡ 1
+unfolding at_least
+one-counted least c h = rw (keep_all (leb least (size c)) (c ∷ []) (le-leb _ _ h))
+
 -- one circle counts where it has members enough
-pub one-counted : (least c : ℕ) → bool_byte (leb least (size c)) ≡ length (at_least least (c ∷ []))
+pub circle-counts : (least c : ℕ) → bool_byte (leb least (size c)) ≡ length (at_least least (c ∷ []))
 unfolding at_least keep_if
-one-counted least c = go (leb least (size c))
+circle-counts least c = go (leb least (size c))
   where
     go : (enough : Bool) → bool_byte enough ≡ length (keep_if enough (c ∷ []) ++ [])
     go true = refl

@@ -11,7 +11,7 @@ use Rattle.circles.specs.Circles.{at_least}
 use Rattle.sets.specs.Members.{capacity, members}
 use Rattle.sets.proofs.Pairs.{members-lt}
 use Rattle.sets.proofs.Walks.{none-unseen}
-use Rattle.circles.proofs.Counting.{one-counted, one-most, count-start, count-few, count-more, count_less, count-end, some_left}
+use Rattle.circles.proofs.Counting.{circle-counts, one-most, count-start, count-few, count-more, count_less, count-end, some_left}
 use Rattle.circles.proofs.count_circles.Goals as goal
 use Rattle.circles.proofs.count_circles.Goals.{Start}
 
@@ -36,7 +36,7 @@ loop-left-smaller c =
 
 pub loop-left-preserved : goal.loop-left-preserved
 loop-left-preserved c =
-    let enough : c.from-large.result ≡ length (at_least c.args.least (members c.circle_of-circle.result ∷ [])) = rw c.size.ensures at c.from-large.ensures ∙ one-counted _ _ in
+    let enough : c.from-large.result ≡ length (at_least c.args.least (members c.circle_of-circle.result ∷ [])) = rw c.size.ensures at c.from-large.ensures ∙ circle-counts _ _ in
     rw (c.difference-left.ensures, enough, c.circle_of-circle.ensures) (count-more (wide (goal.at.loop-left-preserved c).Start) c.loop-left.invariant (some_left c.is_empty.ensures (ap not c.loop-left-test.true)))
 
 pub returns : goal.returns
