@@ -1,7 +1,8 @@
 -- Laws of the walk over all circles of a set: at its start, after one circle more, and at its end.
 use mathlib.Core.Path.{◌≡◌, refl, sym, ap, ◌∙◌}
-use mathlib.Core.Bool.{Bool, true, not}
-use mathlib.Core.List.{List, [], ◌∷◌, append-nil}
+use mathlib.Core.Bool.{Bool, true, false, not}
+use mir.Val.{bool_byte}
+use mathlib.Core.List.{List, [], ◌∷◌, ◌++◌, append-nil}
 use Prim.Native.Nat.{ℕ, ◌+◌, ◌^◌, ◌≤◌, ◌<◌}
 use native.Mathlib.Omega.{arith}
 use lib.Dec.{eqb, leb}
@@ -11,20 +12,30 @@ use Rattle.sets.specs.Members.{capacity}
 use Rattle.sets.specs.Tables.{keep_if}
 use Rattle.sets.proofs.Sets.{sub_refl, sub_trans, sub-lt}
 use Rattle.sets.proofs.Size.{size-le}
-use Rattle.sets.proofs.Concat.{keep-le, keep_all, keep-nil}
-use borrow.Author.Tests.{le-leb, leb-true, eqb-false, not-true}
+use Rattle.sets.proofs.Concat.{keep-le, keep_all}
+use borrow.Author.Tests.{le-leb, eqb-false, not-true}
 use Rattle.circles.specs.Circles.{first_circle, circles, at_least}
 use Rattle.circles.proofs.Chains.{rest-within}
 use Rattle.circles.proofs.CircleLists.{circles-none, circles-more, circles-few, rest-less}
 
--- one circle that has members enough, and one that has not
+-- one circle that has members enough
 pub one-counted : (least c : ℕ) → least ≤ size c → length (at_least least (c ∷ [])) ≡ 1
 unfolding at_least
 one-counted least c h = rw (keep_all (leb least (size c)) (c ∷ []) (le-leb _ _ h))
 
-pub none-counted : (least c : ℕ) → size c < least → length (at_least least (c ∷ [])) ≡ 0
-unfolding at_least
-none-counted least c h = rw (keep-nil (leb least (size c)) (c ∷ []) (λ e. let l : least ≤ size c = leb-true _ _ e in omega arith))
+-- one circle counts where it has members enough
+pub circle-counts : (least c : ℕ) → bool_byte (leb least (size c)) ≡ length (at_least least (c ∷ []))
+unfolding at_least keep_if
+circle-counts least c = go (leb least (size c))
+  where
+    go : (enough : Bool) → bool_byte enough ≡ length (keep_if enough (c ∷ []) ++ [])
+    go true = refl
+    go false = refl
+
+-- which is one more at most
+pub one-most : (b : Bool) → bool_byte b ≤ 1
+one-most true = omega arith
+one-most false = omega arith
 
 -- the rest after the first
 counted-more : (least c : ℕ) (cs : List ℕ) → length (at_least least (c ∷ cs)) ≡ length (at_least least (c ∷ [])) + length (at_least least cs)

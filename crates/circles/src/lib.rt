@@ -5,8 +5,8 @@
 
 #![tactic(auto)]
 
-ghost use Rattle.std.specs.Prelude.{◌≡◌, ◌∷◌, [], ◌+◌, ◌≤◌, length};
-ghost use Rattle.sets.specs.Members.{capacity, members, row_words};
+ghost use Rattle.std.specs.Prelude.{◌≡◌, length};
+ghost use Rattle.sets.specs.Members.{members};
 ghost use Rattle.cores.specs.Rows.{graph};
 ghost use Rattle.circles.specs.Circles.{first_circle, circles, at_least};
 
@@ -35,16 +35,14 @@ fn circle_in_words(rows: &[u64; ROW_WORDS], s: BadgeSet) -> BadgeSet
         }
         let u = frontier.smallest();
         let met = set_at(rows, u).intersection(unreached);
-        let left = unreached.difference(met);
-        unreached = left;
-        let others = frontier.rest().union(met);
-        frontier = others;
+        unreached = unreached.difference(met);
+        frontier = frontier.rest().union(met);
     }
 }
 
-// The same walk where a set's lower word has all its members: it goes over that word, and over the lower words of the rows.
-fn circle_in_word(rows: &[u64], word: u64) -> u64
-    requires { length rows.now ≡ row_words }
+// The same walk where a set's lower word has all its members: it goes over that word, and over the lower words of the rows. One generic walk is no plainer
+// here: words and sets would need a trait of their operations, with its laws.
+fn circle_in_word(rows: &[u64; ROW_WORDS], word: u64) -> u64
     ensures { result ≡ first_circle (graph rows.now) word }
 {
     if word == 0 {
@@ -61,7 +59,7 @@ fn circle_in_word(rows: &[u64], word: u64) -> u64
         }
         let u = u64::trailing_zeros(frontier) as usize;
         let met = rows[u * SET_WORDS] & unreached;
-        unreached = unreached - met;
+        unreached -= met;
         frontier = (frontier & (frontier - 1)) | met;
     }
 }
@@ -76,18 +74,6 @@ pub fn circle_of(rows: &[u64; ROW_WORDS], s: BadgeSet) -> BadgeSet
     circle_in_words(rows, s)
 }
 
-// One more where a circle has members enough.
-fn tally(count: usize, circle: BadgeSet, least: usize) -> usize
-    requires { count ≤ capacity }
-    ensures { result ≡ count + length (at_least least (members circle ∷ [])) }
-{
-    if circle.size() < least {
-        count
-    } else {
-        count + 1
-    }
-}
-
 // How many circles a set has, and how many of them have at least so many members.
 pub fn count_circles(rows: &[u64; ROW_WORDS], s: BadgeSet, least: usize) -> Counted
     ensures all { result.all ≡ length (circles (graph rows.now) (members s)) }
@@ -98,11 +84,9 @@ pub fn count_circles(rows: &[u64; ROW_WORDS], s: BadgeSet, least: usize) -> Coun
     let mut left = s;
     while !left.is_empty() {
         let circle = circle_of(rows, left);
-        let tallied = tally(large, circle, least);
-        large = tallied;
         all += 1;
-        let rest = left.difference(circle);
-        left = rest;
+        large += usize::from(least <= circle.size());
+        left = left.difference(circle);
     }
     Counted { all, large }
 }

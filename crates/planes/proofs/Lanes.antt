@@ -8,6 +8,9 @@ use lib.Arith.{mod-mul}
 use lib.Bits.{bit_and, bit_or, bit_xor}
 use lib.Pow.{pow_pos}
 use lib.ListN.{length}
+use Rattle.std.specs.Int.{bit_not}
+use Rattle.std.proofs.lemmas.Nat.Bits.{bit_at_not}
+use mir.Syntax.{w64}
 use Rattle.sets.specs.Sets.{bit, In, set_of, full}
 use Rattle.sets.specs.Words.{word_bits}
 use Rattle.sets.proofs.Bits.{bit-lt, bit-none, bit-and, bit-or, bit-xor}
@@ -87,15 +90,23 @@ eight-plus p0 p1 p2 ps a b c d e f g h {l4 = l4} {l6 = l6} {h7 = h7} {l7 = l7} s
       (omega (arith, s1.sum v, s2.sum v, s3.sum v, s4.sum v, s5.sum v, s6.sum v, s7.sum v)) second;
 }
 
--- every plane has every bit the other way
-unfoldable pub flipped : ℕ → List ℕ → List ℕ
-flipped o [] = []
-flipped o (p ∷ ps) = bit_xor o p ∷ flipped o ps
+-- planes that are words, and the same with every bit the other way
+abbrev pub are_words : List ℕ → Type 0
+are_words [] = Unit
+are_words (p ∷ ps) = (p < 2 ^ word_bits) × are_words ps
 
-flipped_lane : (o v : ℕ) → In o v → (ps : List ℕ) → lane ps v + lane (flipped o ps) v + 1 ≡ 2 ^ length ps
+unfoldable pub flipped : List ℕ → List ℕ
+flipped [] = []
+flipped (p ∷ ps) = bit_not w64 p ∷ flipped ps
+
+bit-flipped : (p v : ℕ) → p < 2 ^ word_bits → v < word_bits → bit p v + bit (bit_not w64 p) v ≡ 1
+unfolding bit
+bit-flipped p v w h = omega (arith, bit_at_not w64 p v w h, bit-lt p v)
+
+flipped_lane : (v : ℕ) → v < word_bits → (ps : List ℕ) → are_words ps → lane ps v + lane (flipped ps) v + 1 ≡ 2 ^ length ps
 unfolding lane flipped
-flipped_lane o v i [] = refl
-flipped_lane o v i (p ∷ ps) = rw pow-suc (omega (arith, bit-xor v o p, bit-lt p v, flipped_lane o v i ps))
+flipped_lane v h [] w = refl
+flipped_lane v h (p ∷ ps) w = rw pow-suc (omega (arith, bit-flipped p v w.0 h, flipped_lane v h ps w.1))
 
 -- a number in every lane, digit by digit
 unfoldable pub repeated : ℕ → ℕ → ℕ → List ℕ
@@ -114,8 +125,8 @@ repeated-lane o v i (suc n) x =
     let b = digit-bit o v i (x % 2) (mod-lt x (zero-lt-suc 1)) in
     next-plane n (bit (x % 2 * o) v) (x / 2) (bit-lt (x % 2 * o) v) (omega (arith, b)) (repeated-lane o v i n (x / 2))
 
-pub flipped-complement : (o : ℕ) → ((v : ℕ) → v < word_bits → In o v) → (ps : List ℕ) → Complement ps (flipped o ps)
-flipped-complement o i ps = record { sum = λ v h. flipped_lane o v (i v h) ps }
+pub flipped-complement : (ps : List ℕ) → are_words ps → Complement ps (flipped ps)
+flipped-complement ps w = record { sum = λ v h. flipped_lane v h ps w }
 
 pub repeated-length : (o n x : ℕ) → length (repeated o n x) ≡ n
 unfolding repeated

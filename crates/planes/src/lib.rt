@@ -12,7 +12,8 @@ ghost use Rattle.planes.specs.Lanes.{FullAdder, planes_of, Plus, Constant, Compl
 
 pub use maximum::largest;
 
-// The planes, the lowest bits first. There are eight: a lane has room for the number of badges that a set of two words holds, and as much again.
+// The planes, the lowest bits first. There are eight: a lane has room for the number of badges that a set of two words holds, and as much again. An array is
+// no plainer here: an adder takes the lowest planes one by one, and all laws of lanes would carry the array's length.
 #[derive(Clone, Copy)]
 pub struct Planes {
     pub p0: u64,
@@ -26,7 +27,7 @@ pub struct Planes {
 }
 
 // A 1 in every lane.
-pub const EVERY: u64 = 0xffff_ffff_ffff_ffff;
+pub const EVERY: u64 = u64::MAX;
 
 // Half of the numbers that a lane has room for: the last plane has the lanes of this number or more.
 pub const HALF: usize = 128;
@@ -160,13 +161,13 @@ pub fn complement(p: Planes) -> Planes
     ensures { Complement (planes_of p) (planes_of result) }
 {
     Planes {
-        p0: EVERY ^ p.p0,
-        p1: EVERY ^ p.p1,
-        p2: EVERY ^ p.p2,
-        p3: EVERY ^ p.p3,
-        p4: EVERY ^ p.p4,
-        p5: EVERY ^ p.p5,
-        p6: EVERY ^ p.p6,
-        p7: EVERY ^ p.p7,
+        p0: !p.p0,
+        p1: !p.p1,
+        p2: !p.p2,
+        p3: !p.p3,
+        p4: !p.p4,
+        p5: !p.p5,
+        p6: !p.p6,
+        p7: !p.p7,
     }
 }

@@ -52,13 +52,13 @@ row c = get_or c.args.rows.now (count_trailing_zeros word_bits c.loop-unreached.
 
 met : (c : goal.Else-frontier-eq0) → row c < 2 ^ word_bits
     → intersection (graph c.args.rows.now (count_trailing_zeros word_bits c.loop-unreached.frontier)) c.loop-unreached.unreached ≡ bit_and (row c) c.loop-unreached.unreached
-met c w = row-met c.args.rows.now _ _ c.requires (low c) w c.loop-unreached.invariant.low
+met c w = row-met c.args.rows.now _ _ c.told-rows (low c) w c.loop-unreached.invariant.low
 
 pub overflow_sub-unreached-in-loop-unreached : goal.overflow_sub-unreached-in-loop-unreached
 overflow_sub-unreached-in-loop-unreached c = omega (arith, and_le_r (row (goal.at.overflow_sub-unreached-in-loop-unreached c).Else-frontier-eq0) c.loop-unreached.unreached)
 
 pub loop-unreached-smaller : goal.loop-unreached-smaller
-loop-unreached-smaller c = word_fewer c.loop-unreached.invariant c.if-frontier-eq0.false (row (goal.at.loop-unreached-smaller c).Else-frontier-eq0) (met (goal.at.loop-unreached-smaller c).Else-frontier-eq0 (omega (arith, c.type_inv.rows (count_trailing_zeros word_bits c.loop-unreached.frontier * set_words))))
+loop-unreached-smaller c = word_fewer c.loop-unreached.invariant c.if-frontier-eq0.false (row (goal.at.loop-unreached-smaller c).Else-frontier-eq0) (met (goal.at.loop-unreached-smaller c).Else-frontier-eq0 (omega arith))
 
 pub loop-unreached-preserved : goal.loop-unreached-preserved
-loop-unreached-preserved c = word_more c.loop-unreached.invariant c.if-frontier-eq0.false (row (goal.at.loop-unreached-preserved c).Else-frontier-eq0) (met (goal.at.loop-unreached-preserved c).Else-frontier-eq0 (omega (arith, c.type_inv.rows (count_trailing_zeros word_bits c.loop-unreached.frontier * set_words))))
+loop-unreached-preserved c = word_more c.loop-unreached.invariant c.if-frontier-eq0.false (row (goal.at.loop-unreached-preserved c).Else-frontier-eq0) (met (goal.at.loop-unreached-preserved c).Else-frontier-eq0 (omega arith))

@@ -37,8 +37,8 @@ met-is c =
 
 pub loop-unreached-smaller : goal.loop-unreached-smaller
 loop-unreached-smaller c =
-    rw (c.union-others.ensures, c.difference-left.ensures, met-is (goal.at.loop-unreached-smaller c).After-intersection-met, rest-is capacity _ c.smallest-u.ensures c.rest.ensures) (walk-less c.loop-unreached.invariant c.smallest-u.result (at-hand (goal.at.loop-unreached-smaller c).After-smallest-u))
+    rw (c.union-frontier.ensures, c.difference-unreached.ensures, met-is (goal.at.loop-unreached-smaller c).After-intersection-met, rest-is capacity _ c.smallest-u.ensures c.rest.ensures) (walk-less c.loop-unreached.invariant c.smallest-u.result (at-hand (goal.at.loop-unreached-smaller c).After-smallest-u))
 
 pub loop-unreached-preserved : goal.loop-unreached-preserved
 loop-unreached-preserved c =
-    rw (c.union-others.ensures, c.difference-left.ensures, met-is (goal.at.loop-unreached-preserved c).After-intersection-met, rest-is capacity _ c.smallest-u.ensures c.rest.ensures) (walk_more c.loop-unreached.invariant c.smallest-u.result (at-hand (goal.at.loop-unreached-preserved c).After-smallest-u))
+    rw (c.union-frontier.ensures, c.difference-unreached.ensures, met-is (goal.at.loop-unreached-preserved c).After-intersection-met, rest-is capacity _ c.smallest-u.ensures c.rest.ensures) (walk_more c.loop-unreached.invariant c.smallest-u.result (at-hand (goal.at.loop-unreached-preserved c).After-smallest-u))

@@ -1,7 +1,8 @@
 -- `complement` meets its contract: the planes are flipped.
-use Rattle.planes.proofs.Lanes.{flipped, flipped-complement, every_in}
+use native.Mathlib.Omega.{arith}
+use Rattle.planes.proofs.Lanes.{flipped, flipped-complement}
 use Rattle.planes.proofs.complement.Goals as goal
 
 pub returns : goal.returns
 unfolding flipped
-returns c = flipped-complement _ every_in _
+returns c = flipped-complement _ (omega arith, (omega arith, (omega arith, (omega arith, (omega arith, (omega arith, (omega arith, (omega arith, tt))))))))
