@@ -8,6 +8,7 @@
 #![tactic(auto)]
 
 ghost use Rattle.std.specs.Prelude.{◌≡◌, ◌++◌, suc, ◌+◌, ◌-◌, ◌<◌, ◌≤◌, max, length, replicate};
+ghost use Rattle.cuts.specs.declared.TheConstants.{TICKS};
 ghost use Rattle.cuts.specs.Sums.{first_greatest, best_ends, table_score, ends_of};
 ghost use Rattle.cuts.specs.Steps.{NoneAbove, GreatestOf, RowMaxima, row_after, run_sum, SmallAfter, IsGreatestSum, Filled};
 
@@ -17,64 +18,68 @@ const TICKS: usize = 96;
 // The places of a table: a row for each tick, and as many columns.
 const PLACES: usize = TICKS * TICKS;
 
-// The score of the run from tick t to tick e, added to what row c has for the runs after it.
-fn run_sum(scores: &[u8; PLACES], sums: &[u16; PLACES], c: usize, t: usize, e: usize) -> usize
-    requires { (c < TICKS) × (t < TICKS) × (e < TICKS - 1) }
-    ensures { result ≡ run_sum scores.now sums.now c t e }
-{
-    usize::from(scores[t * TICKS + e]) + usize::from(sums[c * TICKS + 1 + e])
-}
-
-// The first of the ticks from t to stop - 1 at which a run from t has the greatest sum.
-fn best_end(scores: &[u8; PLACES], sums: &[u16; PLACES], c: usize, t: usize, stop: usize) -> usize
-    requires { (c < TICKS) × (t < stop) × (stop < TICKS) }
-    ensures { result ≡ first_greatest (run_sum scores.now sums.now c t) t (stop - suc t) }
-{
-    let mut end = t;
-    let mut greatest = run_sum(scores, sums, c, t, t);
-    for e in t + 1..stop {
-        let sum = run_sum(scores, sums, c, t, e);
-        if greatest < sum {
-            end = e;
-            greatest = sum;
-        }
-    }
-    end
-}
-
-// The greatest sum of a run from t that ends at one of the ticks t to stop - 1, and of the runs after it. It does not say at which end, so that the
-// compiler can vectorise the loop. It takes columns of both tables by their number: zipped slices of them cost a check more for each sum.
-fn greatest_sum(scores: &[u8; PLACES], sums: &[u16; PLACES], c: usize, t: usize, stop: usize) -> u16
-    requires { (c < TICKS) × (t < stop) × (stop < TICKS) × SmallAfter sums.now c t stop }
-    ensures { IsGreatestSum scores.now sums.now c t stop result }
-{
-    let row = t * TICKS;
-    let after = c * TICKS + 1;
-    let mut greatest = 0;
-    for e in t..stop {
-        greatest = greatest.max(u16::from(scores[row + e]) + sums[after + e]);
-    }
-    greatest
-}
-
-// The same sum, with less work where no run from t has a score above 0: there it is `rest`, the greatest sum of the runs after the first one.
-fn sum_from(
-    scores: &[u8; PLACES],
-    sums: &[u16; PLACES],
+// The runs from tick t that end at one of the ticks t to stop - 1, with the runs after them that row c of the table has. The two tables are no part of it, as
+// one of them is written between its uses.
+#[derive(Clone, Copy)]
+struct Runs {
     c: usize,
     t: usize,
     stop: usize,
-    maximum: u8,
-    rest: u16,
-) -> u16
-    requires in_table { (c < TICKS) × (t < stop) × (stop < TICKS) × SmallAfter sums.now c t stop }
-    requires row_known { NoneAbove (table_score scores.now t) t stop maximum × GreatestOf (row_after sums.now c) t stop rest }
-    ensures { IsGreatestSum scores.now sums.now c t stop result }
-{
-    if maximum == 0 {
-        return rest;
+    ghost in_table: { (c < TICKS) × (t < stop) × (stop < TICKS) },
+}
+
+impl Runs {
+    // The score of the run to tick e, added to what row c has for the runs after it.
+    fn sum(self, scores: &[u8; PLACES], sums: &[u16; PLACES], e: usize) -> usize
+        requires { e < self.stop }
+        ensures { result ≡ run_sum scores.now sums.now self.c self.t e }
+    {
+        usize::from(scores[self.t * TICKS + e]) + usize::from(sums[self.c * TICKS + 1 + e])
     }
-    greatest_sum(scores, sums, c, t, stop)
+
+    // The first of the ends at which a run has the greatest sum.
+    fn best_end(self, scores: &[u8; PLACES], sums: &[u16; PLACES]) -> usize
+        ensures { result ≡ first_greatest (run_sum scores.now sums.now self.c self.t) self.t (self.stop - suc self.t) }
+    {
+        let mut end = self.t;
+        let mut greatest = self.sum(scores, sums, self.t);
+        // A chain of iterators is no plainer here: of equal sums the first is taken, where `max_by_key` takes the last.
+        for e in self.t + 1..self.stop {
+            let sum = self.sum(scores, sums, e);
+            if greatest < sum {
+                end = e;
+                greatest = sum;
+            }
+        }
+        end
+    }
+
+    // The greatest sum of a run and of those after it. It does not say at which end, so that the compiler can vectorise the loop. It takes columns of both
+    // tables by their number: zipped slices of them cost a check more for each sum.
+    fn greatest_sum(self, scores: &[u8; PLACES], sums: &[u16; PLACES]) -> u16
+        requires { SmallAfter sums.now self.c self.t self.stop }
+        ensures { IsGreatestSum scores.now sums.now self.c self.t self.stop result }
+    {
+        let row = self.t * TICKS;
+        let after = self.c * TICKS + 1;
+        let mut greatest = 0;
+        for e in self.t..self.stop {
+            greatest = greatest.max(u16::from(scores[row + e]) + sums[after + e]);
+        }
+        greatest
+    }
+
+    // The same sum, with less work where no run has a score above 0: there it is `rest`, the greatest sum of the runs after the first one.
+    fn sum_from(self, scores: &[u8; PLACES], sums: &[u16; PLACES], maximum: u8, rest: u16) -> u16
+        requires small { SmallAfter sums.now self.c self.t self.stop }
+        requires row_known { NoneAbove (table_score scores.now self.t) self.t self.stop maximum × GreatestOf (row_after sums.now self.c) self.t self.stop rest }
+        ensures { IsGreatestSum scores.now sums.now self.c self.t self.stop result }
+    {
+        if maximum == 0 {
+            return rest;
+        }
+        self.greatest_sum(scores, sums)
+    }
 }
 
 // The greatest score of the runs from t, up to tick ticks - 1.
@@ -95,14 +100,15 @@ fn row_maxima(scores: &[u8; PLACES], ticks: usize) -> [u8; TICKS]
     ensures { RowMaxima scores.now ticks ticks result }
 {
     let mut maxima = [0u8; TICKS];
-    // An iterator over the places is no plainer here: the row is found by the number t.
+    // An iterator over the places is no plainer here: a row is found by its number.
     for t in 0..ticks {
         maxima[t] = row_maximum(scores, t, ticks);
     }
     maxima
 }
 
-// Row 0: no cut, so that one run goes from t to the last tick. The other parts - 1 runs are before it, so t is not below parts - 1.
+// Row 0: no cut, so that one run goes from t to the last tick. The other parts - 1 runs are before it, so t is not below parts - 1. Iterators over both
+// tables are no plainer here: the scores are those of a column, by the number of the row.
 fn fill_first(scores: &[u8; PLACES], sums: &mut [u16; PLACES], ticks: usize, parts: usize)
     requires { (1 ≤ parts) × (parts ≤ ticks) × (ticks ≤ TICKS) × (length sums.old ≡ PLACES) }
     ensures { Filled scores.now ticks parts 1 sums.new }
@@ -131,11 +137,12 @@ fn fill_row(
     let mut rest = 0;
     for t in (first..stop).rev() {
         rest = rest.max(sums[c * TICKS + 1 + t]);
-        sums[(c + 1) * TICKS + t] = sum_from(scores, sums, c, t, stop, maxima[t], rest);
+        sums[(c + 1) * TICKS + t] = Runs { c, t, stop }.sum_from(scores, sums, maxima[t], rest);
     }
 }
 
-// The ends of the first of the best cuttings, from the rows for fewer cuts, with zeros after them.
+// The ends of the first of the best cuttings, from the rows for fewer cuts, with zeros after them. An iterator over the ends is no plainer here: their numbers
+// say how many cuts are left.
 fn walk_ends(scores: &[u8; PLACES], sums: &[u16; PLACES], ticks: usize, parts: usize) -> [u8; TICKS]
     requires { (1 ≤ parts) × (parts ≤ ticks) × (ticks ≤ TICKS) × Filled scores.now ticks parts (parts - 1) sums.now }
     ensures { result ≡ best_ends (table_score scores.now) ticks parts ++ replicate (TICKS - parts) 0 }
@@ -144,7 +151,8 @@ fn walk_ends(scores: &[u8; PLACES], sums: &[u16; PLACES], ticks: usize, parts: u
     let mut t = 0;
     for i in 0..parts - 1 {
         let c = parts - i - 2;
-        let end = best_end(scores, sums, c, t, ticks - c - 1);
+        let stop = ticks - c - 1;
+        let end = Runs { c, t, stop }.best_end(scores, sums);
         ends[i] = end as u8;
         t = end + 1;
     }

@@ -12,7 +12,7 @@ loop-t-init c = (omega arith, omega arith, omega arith, omega arith, row-none c.
 pub sum_from-requires : goal.sum_from-requires
 sum_from-requires c =
     let b = c.loop-t.invariant.4 in record {
-      in_table = (omega arith, omega arith, omega arith, table-small _ _ b.partly.rows (omega arith) (omega arith) (omega arith));
+      small = table-small _ _ b.partly.rows (omega arith) (omega arith) (omega arith);
       row_known = (row-bound c.requires.3 (omega arith) (omega arith), rest-in-table b _ (omega arith) (omega arith) (omega arith) (grind (arith, nat_tests)));
     }
 

@@ -1,8 +1,0 @@
--- `best_end` meets its contract: before end e of the loop, `end` is the first of the ends t to e - 1 with the greatest sum, `greatest`.
-use Prim.Native.Nat.{◌≤◌}
-use Rattle.cuts.specs.Steps.{run_sum}
-use Rattle.cuts.proofs.Steps.{Tried}
-use Rattle.cuts.proofs.best_end.Given as goal
-
-abbrev pub invariant-loop-e : goal.invariant-loop-e
-invariant-loop-e l = (l.e ≤ l.stop) × Tried (run_sum l.scores l.sums l.c l.t) l.t l.e l.end l.greatest
