@@ -15,7 +15,8 @@ use sets::{BadgeSet, CAPACITY, SET_WORDS, put_set};
 // The words of the largest day.
 const WIDE_WORDS: usize = SET_WORDS * CAPACITY * MAX_TICKS;
 
-// Fills words with the sets of n badges that are all in contact in every tick: all of them but the badge itself.
+// Fills words with the sets of n badges that are all in contact in every tick: all of them but the badge itself. A `for` over
+// the words in pairs is no plainer: a set is put at a position.
 fn put_all_in_contact(words: &mut [u64], n: usize)
     requires { 0 < n }
 {

@@ -27,6 +27,7 @@ pub(crate) fn round(k: usize, ticks: usize) -> Contact {
     ]
 }
 
+// As `reference` puts bytes, in more room: one function for both would have to be generic over that and public.
 fn put(log: &mut LongLog, bytes: &[u8]) {
     let _ = log.try_extend_from_slice(bytes);
 }

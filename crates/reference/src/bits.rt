@@ -1,4 +1,4 @@
-// Sets of badges as words: a set has badge v where bit v is set.
+// Sets of badges as words: a set has badge v where bit v is set. A type of their own would be no plainer: the words of a day are such sets.
 use crate::limits::MAX_BADGES;
 
 // Whether a set has badge v.

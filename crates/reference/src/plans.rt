@@ -21,7 +21,7 @@ struct Plan {
 }
 
 impl Plan {
-    // The part that ends with a tick. No count comes near 2^64.
+    // Puts the part that ends with a tick. No count comes near 2^64, so that the sums need no bound of their own.
     fn put_part(&mut self, day: &Day, query: u64, last: usize) {
         let first = self.next;
         let span = Span { first, last };
