@@ -42,6 +42,7 @@ pub fn put_record(buffer: &mut [u8], at: usize, record: Record)
 }
 
 // Appends a contact record to the count that are in a log, and answers how many there are then: none where it would be one too many.
+// (The log and its count stay two parameters: a struct that lends the log makes no contract shorter, and one that owns it is 48,010 bytes to hand over.)
 pub(crate) fn append_contact(
     log: &mut [u8; MAX_LOG_BYTES],
     count: usize,

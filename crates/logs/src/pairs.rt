@@ -14,7 +14,8 @@ use records::MAX_LOG_BYTES;
 use sets::{CAPACITY, WORD_BITS};
 
 // Appends the runs of u and v, which meet in the ticks of a set: from the first tick of a run to the one after its last, and on to the
-// next run's first. (Here and below the answer is the count of contact records then; none where there are too many.)
+// next run's first. The answer, here and below, is the count of contact records then: none where they are too many. (A `for` over the runs is no plainer:
+// its iterator would be these two steps, with a contract of its own.)
 fn append_pair(
     met: TickSet,
     ticks: usize,
@@ -37,7 +38,8 @@ fn append_pair(
     Some(so_far)
 }
 
-// Appends the runs of u and each larger badge. The ticks of all these pairs are gathered first, so a pair costs little more than its runs.
+// Appends the runs of u and each larger badge. The ticks of all these pairs are gathered first, so a pair costs little more than its runs. (The low and the
+// high words are two arrays, each of one gathering: to fill one array of `TickSet` would choose the word anew for each pair and tick.)
 pub(crate) fn append_row(
     day: &Day<'_>,
     u: usize,
@@ -52,8 +54,7 @@ pub(crate) fn append_row(
     let mut highs = [0u64; CAPACITY];
     gather_columns(day, u, WORD_BITS, &mut highs);
     let mut so_far = count;
-    let larger = u + 1;
-    for v in larger..day.badges {
+    for v in u + 1..day.badges {
         let met = TickSet {
             low: lows[v],
             high: highs[v],
