@@ -11,8 +11,8 @@ use crate::pairs::append_row;
 use checks::check_words;
 use records::{MAX_LOG_BYTES, Record, Refusal};
 
-// Puts an answer, in its bytes, into the buffer that is lent, if the buffer holds it, and answers how many they are. Refused by 9, and then no byte is changed; bytes after
-// the answer are never touched.
+// Puts an answer, in its bytes, into the buffer that is lent, if the buffer holds it, and answers how many they are. Refused by 9, and then no byte is
+// changed; bytes after the answer are never touched.
 #[tactic(auto, using(crate::proofs::Delivering::delivers))]
 pub fn deliver(bytes: &[u8], buffer: &mut [u8]) -> Result<usize, Refusal>
     ensures answer { written_outcome result ≡ (deliver (success bytes.now) buffer.old).answer }
