@@ -23,7 +23,7 @@ use Rattle.logs.specs.Buffers.{place}
 use Rattle.logs.specs.Tidy.{run_at, runs_of, tidy_contacts, tidy_log}
 use Rattle.logs.specs.TickSets.{First}
 use Rattle.logs.specs.Writing.{Appended, offset_after, Encoded, Encodes}
-use Rattle.logs.proofs.Delivering.{take-place, length-place}
+use Rattle.logs.proofs.Delivering.{take-place}
 use Rattle.logs.proofs.PairRuns.{RunTo, run-apart, run_inside, run-last}
 
 -- nothing is appended
@@ -149,14 +149,9 @@ encodes-whole n T ws count header contacts before whole e l k f g =
       bytes = rw (size, g) (take-place (offset_after count) (encode (End count)) contacts fits)
           ∙ ap₂ (λ (x y : List ℕ). x ++ y) (e.bytes ∙ ap (λ (s : List ℕ). s ++ encode_all cs) start) (ap (λ (c : ℕ). encode (End c)) number ∙ sym (append-nil (encode (End (length cs)))))
           ∙ sym (encode-append (Header n T ∷ cs) (End (length cs) ∷ []));
-      long = omega (arith, ap length g, length-place (offset_after count) (encode (End count)) contacts fits);
     }
 
 -- where the contact records are not too many, their number is there
 pub encodes-some : (n T : ℕ) (ws : List ℕ) (o : Option ℕ) (buffer : List ℕ) → Encodes n T ws o buffer → length (tidy_contacts n T (adjacent n ws)) ≤ max_contacts → IsSome o
 encodes-some n T ws (Some count) buffer e h = refl
 encodes-some n T ws None buffer e h = absurd (omega (arith, e, h))
-
--- the memory holds the contact records, and their header and end
-pub encoded-fits : {n T : ℕ} {ws : List ℕ} {count : ℕ} {buffer : List ℕ} → Encoded n T ws count buffer → (more : ℕ) → more ≤ 10 → more + 6 * count ≤ length buffer
-encoded-fits e more h = omega (arith, e.few, e.long)

@@ -1,6 +1,5 @@
 -- Laws of bytes that are laid over a buffer, and of an answer that is put into the buffer that is lent.
 use mathlib.Core.Path.{◌≡◌, refl, sym, ap, ap₂, ◌∙◌}
-use mathlib.Core.Bool.{true}
 use mathlib.Core.List.{List, ◌++◌, append_assoc}
 use Prim.Native.Nat.{ℕ, ◌+◌, ◌≤◌, ◌<◌}
 use native.Mathlib.Nat.{zero-add}
@@ -9,18 +8,12 @@ use native.Mathlib.Omega.{arith}
 use lib.ListN.{length, take, drop}
 use lib.Seq.{paste, take-length, take_at, take-paste, length-paste, drop-paste}
 use borrow.Author.Tests.{lt-ltb, le-ltb, le-leb, lt-leb}
-use Rattle.records.specs.Limits.{within_limits, words_for}
+use Rattle.records.specs.Limits.{words_for}
 use Rattle.records.specs.Outcomes.{Outcome, refused, success, and_then}
 use Rattle.records.proofs.Outcomes.{refused-success, success-same}
-use Rattle.records.proofs.WithinLimits.{limits_of}
 use Rattle.days.specs.Calls.{check_of}
 use Rattle.days.proofs.Checks.{check-rest}
 use Rattle.logs.specs.Buffers.{Delivered, deliver, overwrite, place}
-use Rattle.logs.specs.Writing.{Writable}
-
--- words enough for n and T within their limits
-pub writable : {n T : ℕ} {ws : List ℕ} → within_limits n T ≡ true → words_for n T ≤ length ws → Writable n T ws
-writable e h = let l = limits_of e in record { few = l.few; short = l.short; enough = h }
 
 -- bytes laid over a buffer are a copy of all of them
 pub overwrite-paste : (at : ℕ) (bytes buffer : List ℕ) → overwrite at bytes buffer ≡ paste buffer at bytes (length bytes)

@@ -1,21 +1,10 @@
 -- What the parts of writing leave in the buffer. Private functions cite them; no promise rests on them.
 use Rattle.std.specs.Prelude.{◌≡◌, List, ◌++◌, ℕ, ◌+◌, ◌*◌, ◌<◌, ◌≤◌, length, take, Option, Some, None}
 use Rattle.records.specs.declared.record.Record.{Record}
-use Rattle.records.specs.Limits.{max_badges, max_ticks, max_contacts, max_log_bytes, words_for}
+use Rattle.records.specs.Limits.{max_contacts}
 use Rattle.records.specs.Records.{encode_all}
 use Rattle.days.specs.Days.{adjacent}
 use Rattle.logs.specs.Tidy.{tidy_contacts, tidy_log}
-
--- words that a log can be made of: n and T are no more than their limits, and there are words enough
-pub record Writable (n T : ℕ) (ws : List ℕ) : Type 0 where
-  pub few : n ≤ max_badges
-  pub short : T ≤ max_ticks
-  pub enough : words_for n T ≤ length ws
-
--- a buffer that holds any log, and the number of contact records in it
-pub record Roomy (count : ℕ) (buffer : List ℕ) : Type 0 where
-  pub counted : count ≤ max_contacts
-  pub long : max_log_bytes ≤ length buffer
 
 -- where the record after so many contact records starts
 abbrev pub offset_after : ℕ → ℕ
@@ -32,12 +21,11 @@ abbrev pub Appends : List Record → ℕ → Option ℕ → List ℕ → List �
 Appends cs count (Some count') buffer buffer' = Appended cs count count' buffer buffer'
 Appends cs count None buffer buffer' = max_contacts < count + length cs
 
--- the number of contact records of a day's tidy log, not too many, and the log, in a buffer that holds any log
+-- the number of contact records of a day's tidy log, not too many, and the log, in memory that holds any log
 pub record Encoded (n T : ℕ) (ws : List ℕ) (count : ℕ) (buffer : List ℕ) : Type 0 where
   pub number : count ≡ length (tidy_contacts n T (adjacent n ws))
   pub few : count ≤ max_contacts
   pub bytes : take (10 + 6 * count) buffer ≡ tidy_log n T (adjacent n ws)
-  pub long : max_log_bytes ≤ length buffer
 
 -- the log is encoded and the number of its contact records is answered, or they would be too many
 abbrev pub Encodes : ℕ → ℕ → List ℕ → Option ℕ → List ℕ → Type 0

@@ -4,9 +4,9 @@ ghost use Rattle.sets.specs.Members.{capacity, members};
 ghost use Rattle.sets.specs.Words.{word_bits};
 ghost use Rattle.records.specs.Limits.{max_ticks};
 ghost use Rattle.logs.specs.TickSets.{united, Columns};
-ghost use Rattle.logs.specs.Writing.{Writable};
 
-use sets::{BadgeSet, CAPACITY, WORD_BITS, set_at};
+use crate::day::Day;
+use sets::{BadgeSet, CAPACITY, WORD_BITS};
 
 // Adds bits to the column of each badge of a set.
 fn unite(columns: &mut [u64; CAPACITY], badges: BadgeSet, bits: u64)
@@ -27,21 +27,14 @@ fn window(from: usize, ticks: usize) -> usize
 // Gathers, into empty columns, for each badge v larger than u in which of the ticks from one on, as many as a word has bits, u and v meet: bit t is for
 // tick from + t.
 // The members of u's sets are walked, so a pair costs nothing in a tick in which it does not meet.
-pub(crate) fn gather_columns(
-    words: &[u64],
-    n: usize,
-    ticks: usize,
-    u: usize,
-    from: usize,
-    columns: &mut [u64; CAPACITY],
-)
-    requires { Writable n ticks words.now × (u < n) × (from ≤ max_ticks) × (columns.old ≡ replicate capacity 0) }
-    ensures { Columns n words.now u from (min word_bits (ticks - from)) columns.new }
+pub(crate) fn gather_columns(day: &Day<'_>, u: usize, from: usize, columns: &mut [u64; CAPACITY])
+    requires { (u < day.now.badges) × (from ≤ max_ticks) × (columns.old ≡ replicate capacity 0) }
+    ensures { Columns day.now.badges day.now.words.now u from (min word_bits (day.now.ticks - from)) columns.new }
 {
     let smaller = BadgeSet::full(u + 1);
-    let m = window(from, ticks);
+    let m = window(from, day.ticks);
     for t in 0..m {
-        let larger = set_at(words, (from + t) * n + u).difference(smaller);
+        let larger = day.neighbours(from + t, u).difference(smaller);
         unite(columns, larger, 1 << t);
     }
 }

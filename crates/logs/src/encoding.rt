@@ -1,10 +1,11 @@
 // Records put into a buffer in their bytes.
-ghost use Rattle.std.specs.Prelude.{◌≡◌, ◌∷◌, []};
+ghost use Rattle.std.specs.Prelude.{◌≡◌, ◌∷◌, [], ◌≤◌};
+ghost use Rattle.records.specs.Limits.{max_contacts};
 ghost use Rattle.records.specs.Records.{encode};
 ghost use Rattle.logs.specs.Buffers.{place};
-ghost use Rattle.logs.specs.Writing.{Appends, Roomy};
+ghost use Rattle.logs.specs.Writing.{Appends};
 
-use records::{MAX_CONTACTS, Record};
+use records::{MAX_CONTACTS, MAX_LOG_BYTES, Record};
 
 // Lays bytes over a buffer from an offset on. Where the buffer does not hold them there, it stays as it is.
 pub fn put(buffer: &mut [u8], at: usize, bytes: &[u8])
@@ -40,21 +41,22 @@ pub fn put_record(buffer: &mut [u8], at: usize, record: Record)
     }
 }
 
-// Appends a contact record to the count that are in a log's buffer, and answers how many there are then: none where it would be one too many.
+// Appends a contact record to the count that are in a log, and answers how many there are then: none where it would be one too many.
+// (The log and its count stay two parameters: a struct that lends the log makes no contract shorter, and one that owns it is 48,010 bytes to hand over.)
 pub(crate) fn append_contact(
-    buffer: &mut [u8],
+    log: &mut [u8; MAX_LOG_BYTES],
     count: usize,
     a: u8,
     b: u8,
     first: u8,
     last: u8,
 ) -> Option<usize>
-    requires { Roomy count buffer.old }
-    ensures { Appends (Record.Contact a b first last ∷ []) count result buffer.old buffer.new }
+    requires { count ≤ max_contacts }
+    ensures { Appends (Record.Contact a b first last ∷ []) count result log.old log.new }
 {
     if MAX_CONTACTS <= count {
         return None;
     }
-    put_record(buffer, 4 + 6 * count, Record::Contact { a, b, first, last });
+    put_record(log, 4 + 6 * count, Record::Contact { a, b, first, last });
     Some(count + 1)
 }

@@ -7,6 +7,7 @@
 #![tactic(auto)]
 
 mod columns;
+mod day;
 mod encoding;
 mod pairs;
 mod ticks;

@@ -8,6 +8,8 @@ ghost use Rattle.logs.specs.TickSets.{has_tick, tick_capacity, First};
 use sets::WORD_BITS;
 
 // Some of the ticks 0 to 127: bit t of the low word says whether tick t is in the set, bit t of the high word whether tick 64 + t is.
+// (Two words as a `BadgeSet` has, but of other things: nothing here asks for a set's members or puts two sets together, and no set of badges for the first
+// one that is not in it.)
 #[derive(Clone, Copy)]
 pub(crate) struct TickSet {
     pub(crate) low: u64,

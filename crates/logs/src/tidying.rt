@@ -2,6 +2,7 @@
 ghost use Rattle.std.specs.Prelude.{◌≡◌};
 ghost use Rattle.logs.specs.Calls.{tidy_of, written_outcome};
 
+use crate::day::Day;
 use crate::writing::{deliver, encode_day};
 use days::read;
 use records::{MAX_LOG_BYTES, Refusal};
@@ -16,7 +17,12 @@ pub fn tidy(log: &[u8], work: &mut [u64], buffer: &mut [u8]) -> Result<usize, Re
     ensures leaves { buffer.new ≡ (tidy_of log.now work.old buffer.old).buffer }
 {
     let accepted = read(log, work)?;
+    let day = Day {
+        words: work,
+        badges: accepted.badges,
+        ticks: accepted.ticks,
+    };
     let mut tidied = [0u8; MAX_LOG_BYTES];
-    let count = encode_day(work, accepted.badges, accepted.ticks, &mut tidied).unwrap();
+    let count = encode_day(&day, &mut tidied).unwrap();
     deliver(&tidied[..10 + 6 * count], buffer)
 }

@@ -36,6 +36,7 @@ fn sources_at(words: &[u64], i: usize, passing: BadgeSet) -> BadgeSet
 
 // The turn of a badge that was not reached before tick t, whose sets are those from a place on: where some who pass on are in contact with it it is reached,
 // and gets the tick, and the smallest of these as its source. Gives the set of those reached, with it.
+// (The words with the place and the tick are parameters of two functions alone: a struct of them would be made anew for each tick, and is no plainer.)
 fn reach(
     trace: &mut [u8],
     words: &[u64],

@@ -7,4 +7,4 @@ use Rattle.logs.specs.TickSets.{Columns}
 use Rattle.logs.proofs.columns.gather_columns.Given as goal
 
 abbrev pub invariant-loop-t : goal.invariant-loop-t
-invariant-loop-t l = (l.t ≤ l.m) × (members l.smaller ≡ full (l.u + 1)) × Columns l.n l.words l.u l.from l.t l.columns
+invariant-loop-t l = (l.t ≤ l.m) × (members l.smaller ≡ full (l.u + 1)) × Columns l.day.badges l.day.words.now l.u l.from l.t l.columns

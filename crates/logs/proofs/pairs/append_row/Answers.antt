@@ -20,25 +20,25 @@ abbrev met : goal.In-loop-v → TickSet
 met c =
     record { low = get_or c.gather_columns.new.columns c.loop-v.v 0; high = get_or c.gather_columns-2.new.columns c.loop-v.v 0 }
 
-met-below : (c : goal.In-loop-v) → TicksBelow c.args.ticks (met c)
+met-below : (c : goal.In-loop-v) → TicksBelow c.args.day.now.ticks (met c)
 met-below c =
     let a = c.args in
-    tick-below a.n a.ticks a.words.now a.u c.loop-v.v (met c) (omega arith) (omega arith) (omega arith) c.gather_columns.ensures c.gather_columns-2.ensures refl refl
+    tick-below a.day.now.badges a.day.now.ticks a.day.now.words.now a.u c.loop-v.v (met c) (omega arith) (omega arith) (omega arith) c.gather_columns.ensures c.gather_columns-2.ensures refl refl
 
 met-in : (c : goal.In-loop-v) →
-    let a = c.args in (t : ℕ) → t < a.ticks → has_tick (met c) t ≡ adjacent a.n a.words.now t a.u c.loop-v.v
+    let a = c.args in (t : ℕ) → t < a.day.now.ticks → has_tick (met c) t ≡ adjacent a.day.now.badges a.day.now.words.now t a.u c.loop-v.v
 met-in c =
     let a = c.args in
-    tick-in a.n a.ticks a.words.now a.u c.loop-v.v (met c) (omega arith) (omega arith) (omega arith) c.gather_columns.ensures c.gather_columns-2.ensures refl refl
+    tick-in a.day.now.badges a.day.now.ticks a.day.now.words.now a.u c.loop-v.v (met c) (omega arith) (omega arith) (omega arith) c.gather_columns.ensures c.gather_columns-2.ensures refl refl
 
 pub loop-v-init : goal.loop-v-init
 loop-v-init c =
     let a = c.args in
-    (search rules, search rules, refl, rw (row-none a.ticks (adjacent a.n a.words.now) a.u) (appends-none _ _ (omega arith)))
+    (search rules, search rules, rw (row-none a.day.now.ticks (adjacent a.day.now.badges a.day.now.words.now) a.u) (appends-none _ _ (omega arith)))
 
 pub append_pair-requires : goal.append_pair-requires
 append_pair-requires c = (
-  record { counted = c.loop-v.invariant.3.few; long = omega arith },
+  c.loop-v.invariant.2.few,
   search rules,
   search rules,
   search rules,
@@ -50,9 +50,9 @@ loop-v-preserved c =
     let e = (goal.at.loop-v-preserved c).In-loop-v in
     let i = e.loop-v in
     let a = e.args in
-    let r = adjacent a.n a.words.now in
-    let same = runs_same a.ticks (has_tick (met e)) (λ t. r t a.u i.v) (met-in e) a.u i.v in
-    (search rules, search rules, omega arith, row_more a.ticks r a.u i.v (omega arith) i.invariant.3 (rw same at c.in_ok-so_far.ensures))
+    let r = adjacent a.day.now.badges a.day.now.words.now in
+    let same = runs_same a.day.now.ticks (has_tick (met e)) (λ t. r t a.u i.v) (met-in e) a.u i.v in
+    (search rules, search rules, row_more a.day.now.ticks r a.u i.v (omega arith) i.invariant.2 (rw same at c.in_ok-so_far.ensures))
 
 pub returns-in_err-so_far : goal.returns-in_err-so_far
 unfolding row_runs
@@ -60,12 +60,12 @@ returns-in_err-so_far c =
     let e = (goal.at.returns-in_err-so_far c).In-loop-v in
     let i = e.loop-v in
     let a = e.args in
-    let r = adjacent a.n a.words.now in
-    let same = runs_same a.ticks (has_tick (met e)) (λ t. r t a.u i.v) (met-in e) a.u i.v in
-    rw c.from_residual.ensures (row-many a.ticks r a.u i.v (omega arith) a.n (omega arith) i.invariant.3 (rw same at c.in_err-so_far.ensures))
+    let r = adjacent a.day.now.badges a.day.now.words.now in
+    let same = runs_same a.day.now.ticks (has_tick (met e)) (λ t. r t a.u i.v) (met-in e) a.u i.v in
+    rw c.from_residual.ensures (row-many a.day.now.ticks r a.u i.v (omega arith) a.day.now.badges (omega arith) i.invariant.2 (rw same at c.in_err-so_far.ensures))
 
 pub returns : goal.returns
 unfolding row_runs
 returns c =
-    let e : c.loop-v.v ≡ c.args.n = omega (arith, c.loop-v-test.false) in
-    rw e at c.loop-v.invariant.3
+    let e : c.loop-v.v ≡ c.args.day.now.badges = omega (arith, c.loop-v-test.false) in
+    rw e at c.loop-v.invariant.2
