@@ -10,7 +10,6 @@ use Rattle.records.specs.Limits.{max_ticks}
 use Rattle.records.proofs.WithinLimits.{limits_of}
 use Rattle.days.specs.Days.{LentDay}
 use Rattle.thresholds.specs.declared.Thresholds.{Thresholds}
-use Rattle.spans.specs.Reviews.{Review}
 use Rattle.spans.specs.Reports.{groups_from, groups_of}
 use Rattle.spans.specs.KeptGroups.{kept}
 use Rattle.spans.specs.Encoding.{max_cores}
@@ -24,8 +23,6 @@ use Rattle.groups.proofs.LineLaws.{scores-none, scores-more, line-list, line-cou
 -- Before the turn of a first tick: the cores that meet the thresholds on the spans that start before it are kept, and the orders are those of the spans that
 -- start one tick before it.
 pub record CoresSoFar (n T : ℕ) (ws : List ℕ) (base : ℕ) (least : Thresholds) (first count records : ℕ) (packs₀ packs memory₀ memory orders members circles large : List ℕ) : Type 0 where
-  pub lent : LentDay n T ws
-  pub reviewed : Review n base
   pub enough : 1 ≤ least.members
   pub high : first ≤ T
   pub packs_room : max_cores ≤ length packs
@@ -39,12 +36,10 @@ pub record CoresSoFar (n T : ℕ) (ws : List ℕ) (base : ℕ) (least : Threshol
 short : {n T : ℕ} {ws : List ℕ} → LentDay n T ws → T ≤ max_ticks
 short d = (limits_of d.limits).short
 
-pub so-far-none : (n T : ℕ) (ws : List ℕ) (base : ℕ) (least : Thresholds) (packs memory : List ℕ) → LentDay n T ws → Review n base → 1 ≤ least.members → max_cores ≤ length packs → max_cores * set_words ≤ length memory
+pub so-far-none : (n T : ℕ) (ws : List ℕ) (base : ℕ) (least : Thresholds) (packs memory : List ℕ) → LentDay n T ws → 1 ≤ least.members → max_cores ≤ length packs → max_cores * set_words ≤ length memory
     → CoresSoFar n T ws base least 0 0 0 packs packs memory memory (replicate 97 0) (replicate (96 * set_words) 0) (replicate 96 0) (replicate 96 0)
 unfolding concat_below kept
-so-far-none n T ws base least packs memory d v e q r = record {
-  lent = d;
-  reviewed = v;
+so-far-none n T ws base least packs memory d e q r = record {
   enough = e;
   high = omega arith;
   packs_room = q;
@@ -56,15 +51,15 @@ so-far-none n T ws base least packs memory d v e q r = record {
   cores = keeps-none;
 }
 
-module _ {n T : ℕ} {ws : List ℕ} {base : ℕ} {least : Thresholds} {first count records : ℕ} {packs₀ packs memory₀ memory orders members circles large : List ℕ} (s : CoresSoFar n T ws base least first count records packs₀ packs memory₀ memory orders members circles large) where
+module _ {n T : ℕ} {ws : List ℕ} {base : ℕ} {least : Thresholds} {first count records : ℕ} {packs₀ packs memory₀ memory orders members circles large : List ℕ} (lent : LentDay n T ws) (s : CoresSoFar n T ws base least first count records packs₀ packs memory₀ memory orders members circles large) where
   -- so far there are so few that one more for each last tick has room
   so-far-few : count + (T - first) ≤ max_cores
-  so-far-few = omega (arith, s.cores.number, kept-le least (concat_below first (groups_from n T ws base)), groups-before n T ws base first s.high, spans-few (short s.lent))
+  so-far-few = omega (arith, s.cores.number, kept-le least (concat_below first (groups_from n T ws base)), groups-before n T ws base first s.high, spans-few (short lent))
 
   module _ (l : first < T) {orders' members' circles' large' : List ℕ} (c : LineFound n T ws base 0 first least.members orders orders' members' circles' large') where
     pub so-far-room : LineRoom T first count records orders' circles' large' packs memory
     so-far-room =
-        let h = short s.lent in
+        let h = short lent in
         record {
           short = h;
           orders_size = omega (arith, c.orders_size, s.before.size);
@@ -85,8 +80,6 @@ module _ {n T : ℕ} {ws : List ℕ} {base : ℕ} {least : Thresholds} {first co
         rw (line-list s.before c) at (keeps_same (line-counted least s.enough c) a) in
         let e : first + 1 ≡ suc first = omega arith in
         record {
-          lent = s.lent;
-          reviewed = s.reviewed;
           enough = s.enough;
           high = omega arith;
           packs_room = omega (arith, s.packs_room, a.packs_size);

@@ -22,7 +22,7 @@ use Rattle.cores.specs.Rows.{graph}
 use Rattle.circles.specs.Circles.{at_least, circles as circles'}
 use Rattle.circles.proofs.CircleLists.{circles-few}
 use Rattle.thresholds.specs.declared.Thresholds.{Thresholds}
-use Rattle.spans.specs.Spans.{span_neighbours, span_words}
+use Rattle.spans.specs.Spans.{SpanOfDay, span_neighbours, span_words}
 use Rattle.spans.specs.Reviews.{Review}
 use Rattle.spans.specs.SpanCores.{SpanCore, Mem}
 use Rattle.spans.specs.Reports.{groups_of}
@@ -40,7 +40,7 @@ use Rattle.spans.proofs.Forms.{marked}
 use Rattle.spans.proofs.MostGroups.{report-length, groups-few}
 use Rattle.spans.proofs.MostRecords.{records_few, most-small}
 use Rattle.groups.specs.Keeping.{packs_of, sets_of, total, Unpacked, circle_count, record_count, FindsCores}
-use Rattle.groups.specs.Appending.{AppendsCores, large_records, RowsOf, CoreToSplit, shown_bytes, ReportCores, EncodesReport, DeliversReport}
+use Rattle.groups.specs.Appending.{AppendsCores, large_records, CoreToSplit, shown_bytes, ReportCores, EncodesReport, DeliversReport}
 use Rattle.groups.proofs.Appended.{further, appends-none, appends-then}
 use Rattle.groups.proofs.KeptMemory.{kept_at}
 use Rattle.groups.proofs.CircleLoop.{circle-room, large-one, large-length}
@@ -116,8 +116,6 @@ module _ {n T : ℕ} {ws : List ℕ} {base : ℕ} (lent : LentDay n T ws) (r : R
   pub found-cores : {w count records : ℕ} {packs packs' memory memory' buffer : List ℕ} → w ≡ (form_of n).set_bytes → FindsCores n T ws base least count records packs packs' memory memory' → max_cores ≤ length packs → 10 + core_bytes w * records ≤ length buffer
       → ReportCores n T ws base least count packs' memory' buffer
   found-cores same f m h = record {
-    lent = lent;
-    reviewed = r;
     number = omega (arith, f.number);
     in_packs = f.in_packs;
     in_memory = f.in_memory;
@@ -128,11 +126,11 @@ module _ {n T : ℕ} {ws : List ℕ} {base : ℕ} (lent : LentDay n T ws) (r : R
 
 -- ---- a core that is split
 
-module _ {n T : ℕ} {ws : List ℕ} {enough : ℕ} {c : SpanCore} {circles w count : ℕ} {buffer : List ℕ} (d : CoreToSplit n T ws enough c circles w count buffer) where
+module _ {n T : ℕ} {ws : List ℕ} {enough : ℕ} {c : SpanCore} {circles w count : ℕ} {buffer : List ℕ} (lent : LentDay n T ws) (d : CoreToSplit n T ws enough c circles w count buffer) where
   -- a core of one circle is its own record, and has room
   pub whole-record : circles ≡ 1 → large_records c enough (circles_of n ws c) ≡ c ∷ []
   whole-record e =
-      let f : circles_of n ws c ≡ c.members ∷ [] = whole-circle n ws c (sym d.number ∙ e) (day-small d.span.lent c.members d.named) in
+      let f : circles_of n ws c ≡ c.members ∷ [] = whole-circle n ws c (sym d.number ∙ e) (day-small lent c.members d.named) in
       rw f (large-one c enough c.members d.many)
 
   pub whole_room : circles ≡ 1 → (w ≤ 16) × (4 + core_bytes w * count + core_bytes w ≤ length buffer)
@@ -141,7 +139,7 @@ module _ {n T : ℕ} {ws : List ℕ} {enough : ℕ} {c : SpanCore} {circles w co
   -- the circles of any other are found from the rows of its span
   pub split-circles : {rows : List ℕ} → rows ≡ span_words n ws c.first c.last → circles' (graph rows) c.members ≡ circles_of n ws c
   unfolding circles_of
-  split-circles e = rw e (span-circles d.span c.members d.named)
+  split-circles e = rw e (span-circles (record { lent = lent; rising = d.rising; inside = d.inside }) c.members d.named)
 
 -- ---- the report as it is written
 
@@ -152,17 +150,17 @@ pub record ReportSoFar (n T : ℕ) (ws : List ℕ) (base : ℕ) (least : Thresho
   pub all : kept least (groups_of n T ws base) ≡ done ++ left
   pub turn : i ≡ length done
   pub appended : AppendsCores (form_of n).group (form_of n).set_bytes 4 (kept least (circle_records n ws done)) 0 count buffer₀ buffer
-  pub rows_of : RowsOf n T ws first last rows
+  pub rows_are : rows ≡ span_words n ws first last
 
-pub written_none : {n T : ℕ} {ws : List ℕ} {base : ℕ} {least : Thresholds} {rows buffer : List ℕ} → RowsOf n T ws 0 0 rows → ReportSoFar n T ws base least 0 0 0 0 rows buffer buffer
+pub written_none : {n T : ℕ} {ws : List ℕ} {base : ℕ} {least : Thresholds} {rows buffer : List ℕ} → rows ≡ span_words n ws 0 0 → ReportSoFar n T ws base least 0 0 0 0 rows buffer buffer
 unfolding circle_records kept
-written_none {n} {T} {ws} {base} {least} r = record { done = []; left = kept least (groups_of n T ws base); all = refl; turn = refl; appended = appends-none; rows_of = r }
+written_none {n} {T} {ws} {base} {least} r = record { done = []; left = kept least (groups_of n T ws base); all = refl; turn = refl; appended = appends-none; rows_are = r }
 
-module _ {n T : ℕ} {ws : List ℕ} {base : ℕ} {least : Thresholds} {cores : ℕ} {packs memory given : List ℕ} (p : ReportCores n T ws base least cores packs memory given) where
+module _ {n T : ℕ} {ws : List ℕ} {base : ℕ} {least : Thresholds} {cores : ℕ} {packs memory given : List ℕ} (lent : LentDay n T ws) (reviewed : Review n base) (p : ReportCores n T ws base least cores packs memory given) where
   -- the records of the cores before a place and from it on are those of the report
   shown-apart : (xs ys : List SpanCore) → kept least (groups_of n T ws base) ≡ xs ++ ys → shown_records n T ws base least ≡ kept least (circle_records n ws xs) ++ kept least (circle_records n ws ys)
   shown-apart xs ys e =
-      sym (cores-shown p.lent p.reviewed least) ∙ ap (λ (cs : List SpanCore). kept least (circle_records n ws cs)) e ∙ ap (kept least) (circle-records-append n ws xs ys)
+      sym (cores-shown lent reviewed least) ∙ ap (λ (cs : List SpanCore). kept least (circle_records n ws cs)) e ∙ ap (kept least) (circle-records-append n ws xs ys)
       ∙ kept_append least (circle_records n ws xs) (circle_records n ws ys)
 
   room_for : (xs ys : List SpanCore) → kept least (groups_of n T ws base) ≡ xs ++ ys → 10 + record_bytes n * (length (kept least (circle_records n ws xs)) + length (kept least (circle_records n ws ys))) ≤ length given
@@ -179,13 +177,13 @@ module _ {n T : ℕ} {ws : List ℕ} {base : ℕ} {least : Thresholds} {cores : 
     -- so far there are few
     pub written-few : count ≤ max_records
     written-few =
-        let limits = limits_of p.lent.limits in
+        let limits = limits_of lent.limits in
         omega (
           arith,
           s.appended.number,
           ap length (shown-apart s.done s.left s.all),
           length-append (kept least (circle_records n ws s.done)) (kept least (circle_records n ws s.left)),
-          records_few p.lent p.reviewed.named least,
+          records_few lent reviewed.named least,
           most-small limits.few limits.short,
         )
 
@@ -218,41 +216,45 @@ module _ {n T : ℕ} {ws : List ℕ} {base : ℕ} {least : Thresholds} {cores : 
       module _ {d : SpanCore} {circles : ℕ} (u : Unpacked (get_or packs i 0) (set_at memory i) d circles) {f : Form} (same : f ≡ form_of n) where
         told : (d ≡ core) × (circles ≡ circle_count n ws core)
         told =
-            let b = core-bytes p.lent p.reviewed least core core-in in
+            let b = core-bytes lent reviewed least core core-in in
             kept_at (circle_count n ws) cores packs memory s.done core after (p.in_packs ∙ ap (packs_of (circle_count n ws)) apart) (p.in_memory ∙ ap (λ (cs : List SpanCore). words_of (sets_of cs)) apart) (omega (arith, s.turn)) b.0 b.1 b.2 b.3 (rw s.turn at u)
 
         pub written-split : CoreToSplit n T ws least.members d circles f.set_bytes count buffer
         unfolding circle_count record_count circle_records
         written-split = rw (same, told.0) (record {
-          span = core-span p.lent p.reviewed.named (stated p.lent p.reviewed least) core core-in;
-          named = core-inside p.lent p.reviewed.named (stated p.lent p.reviewed least) core core-in;
+          rising = here.rising;
+          inside = here.inside;
+          named = core-inside lent reviewed.named (stated lent reviewed least) core core-in;
           number = told.1;
-          many = (meets-of least core (core-meets p.lent p.reviewed least core core-in)).2;
+          many = (meets-of least core (core-meets lent reviewed least core core-in)).2;
           room = record { short = (marked n).most; room = omega (arith, room_for s.done (core ∷ after) apart, mul-le-mul_left (record_bytes n) few, s.appended.size) };
         })
           where
+            here : SpanOfDay n T ws core.first core.last
+            here = core-span lent reviewed.named (stated lent reviewed least) core core-in
+
             few : count + length (at_least least.members (circles_of n ws core)) ≤ length (kept least (circle_records n ws s.done)) + length (kept least (circle_records n ws (core ∷ after)))
             few = omega (
               arith,
               s.appended.number,
-              record-length p.lent p.reviewed least core core-in,
+              record-length lent reviewed least core core-in,
               ap length (kept_append least (records_of n ws core) (circle_records n ws after)),
               length-append (kept least (records_of n ws core)) (kept least (circle_records n ws after)),
             )
 
         pub written-more : {count' first' last' : ℕ} {rows' buffer' : List ℕ} → AppendsCores f.group f.set_bytes 4 (large_records d least.members (circles_of n ws d)) count count' buffer buffer'
-            → RowsOf n T ws first' last' rows' → ReportSoFar n T ws base least (i + 1) count' first' last' rows' buffer₀ buffer'
+            → rows' ≡ span_words n ws first' last' → ReportSoFar n T ws base least (i + 1) count' first' last' rows' buffer₀ buffer'
         unfolding circle_records
-        written-more {count'} {first'} {last'} {rows'} {buffer'} a r =
-            let b : AppendsCores (form_of n).group (form_of n).set_bytes 4 (kept least (records_of n ws core)) count count' buffer buffer' = rw (same, told.0, core-records p.lent p.reviewed least core core-in) at a in
-            let e : circle_records n ws (s.done ++ (core ∷ [])) ≡ circle_records n ws s.done ++ records_of n ws core = circle-records-append n ws s.done (core ∷ []) ∙ ap (λ (cs : List SpanCore). circle_records n ws s.done ++ cs) (append-nil (records_of n ws core)) in
+        written-more {count'} {first'} {last'} {rows'} {buffer'} a e =
+            let b : AppendsCores (form_of n).group (form_of n).set_bytes 4 (kept least (records_of n ws core)) count count' buffer buffer' = rw (same, told.0, core-records lent reviewed least core core-in) at a in
+            let both : circle_records n ws (s.done ++ (core ∷ [])) ≡ circle_records n ws s.done ++ records_of n ws core = circle-records-append n ws s.done (core ∷ []) ∙ ap (λ (cs : List SpanCore). circle_records n ws s.done ++ cs) (append-nil (records_of n ws core)) in
             record {
               done = s.done ++ (core ∷ []);
               left = after;
               all = apart ∙ sym (append_assoc s.done (core ∷ []) after);
               turn = omega (arith, s.turn, length-append s.done (core ∷ []));
-              appended = rw (e, kept_append least (circle_records n ws s.done) (records_of n ws core)) (appends-then s.appended b);
-              rows_of = r;
+              appended = rw (both, kept_append least (circle_records n ws s.done) (records_of n ws core)) (appends-then s.appended b);
+              rows_are = e;
             }
 
   -- the header
@@ -278,7 +280,7 @@ module _ {n T : ℕ} {ws : List ℕ} {base : ℕ} {least : Thresholds} {cores : 
       let r = record_bytes n in
       let none : s.left ≡ [] = no_more s.left (omega (arith, p.number, s.turn, ap length s.all, length-append s.done s.left)) in
       let whole : kept least (circle_records n ws s.done) ≡ records =
-      ap (λ (cs : List SpanCore). kept least (circle_records n ws cs)) (sym (s.all ∙ ap (λ (cs : List SpanCore). s.done ++ cs) none ∙ append-nil s.done)) ∙ cores-shown p.lent p.reviewed least in
+      ap (λ (cs : List SpanCore). kept least (circle_records n ws cs)) (sym (s.all ∙ ap (λ (cs : List SpanCore). s.done ++ cs) none ∙ append-nil s.done)) ∙ cores-shown lent reviewed least in
       let a : AppendsCores (form_of n).group w 4 records 0 count buffer₀ buffer = rw whole at s.appended in
       let start : buffer₀ ≡ place 0 header given = rw same at e in
       let end : left ≡ place (4 + r * count) (encode (End count)) buffer = rw same at f in

@@ -1,10 +1,8 @@
 -- What the functions that score the runs of a day and encode its plan promise.
 use Rattle.std.specs.Prelude.{List, ◌++◌, ◌≡◌, ℕ, ◌+◌, ◌*◌, ◌≤◌, ◌<◌, length, get_or, take, drop}
 use Rattle.records.specs.Limits.{max_ticks}
-use Rattle.days.specs.Days.{LentDay}
 use Rattle.cuts.specs.Cuttings.{Cutting}
 use Rattle.cuts.specs.Sums.{table_score}
-use Rattle.spans.specs.Reviews.{Review}
 use Rattle.spans.specs.Plans.{score_on, parts_from}
 use Rattle.spans.specs.Encoding.{form_of, core_bytes, plan_bytes}
 
@@ -30,10 +28,8 @@ pub record Scores (n T : ℕ) (ws : List ℕ) (base query k : ℕ) (scores : Lis
 abbrev pub plan_size : ℕ → ℕ → ℕ
 plan_size w h = 6 + core_bytes w + core_bytes w * h
 
--- what a plan is encoded from: a lent day, the badges under review, the scores of its runs for a query, and the ends of a cutting into h runs
+-- what a plan is encoded from: the scores of a day's runs for a query, and the ends of a cutting into h runs
 pub record PlanParts (n T : ℕ) (ws : List ℕ) (base query h : ℕ) (ends scores buffer : List ℕ) : Type 0 where
-  pub lent : LentDay n T ws
-  pub reviewed : Review n base
   pub scored : Scores n T ws base query T scores
   pub cutting : Cutting T h (take h ends)
   pub ends_size : length ends ≡ max_ticks

@@ -3,8 +3,6 @@ ghost use Rattle.std.specs.Prelude.{◌≡◌, ◌∷◌, [], ◌+◌, ◌*◌, 
 ghost use Rattle.sets.specs.Members.{members};
 ghost use Rattle.sets.specs.Words.{set_words, places, set_at};
 ghost use Rattle.sets.specs.Tables.{keep_if};
-ghost use Rattle.days.specs.Days.{LentDay};
-ghost use Rattle.spans.specs.Reviews.{Review};
 ghost use Rattle.spans.specs.KeptGroups.{kept};
 ghost use Rattle.spans.specs.Encoding.{max_cores};
 ghost use Rattle.groups.specs.Appending.{core_of};
@@ -13,7 +11,7 @@ ghost use Rattle.groups.specs.Keeping.{pack_of, KeepsCores, Unpacked, line_list,
 use crate::day::Day;
 use crate::encoding::Shown;
 use crate::lines::find_line;
-use sets::{BadgeSet, SET_WORDS, put_set, set_at, widen};
+use sets::{BadgeSet, SET_WORDS, put_set, set_at};
 use thresholds::Thresholds;
 
 // A core that is kept: what a record would show of it whole, and how many circles it has.
@@ -78,8 +76,8 @@ fn keep_core(
         return tally;
     }
     if !least.met_by(
-        widen(shown.last - shown.first) + 1,
-        widen(shown.order),
+        usize::from(shown.last - shown.first) + 1,
+        usize::from(shown.order),
         members,
     ) {
         return tally;
@@ -89,7 +87,7 @@ fn keep_core(
     put_set(memory, at, members);
     Tally {
         cores: tally.cores + 1,
-        records: tally.records + widen(large),
+        records: tally.records + usize::from(large),
     }
 }
 
@@ -133,14 +131,13 @@ fn keep_line(
 // Finds the maximal cores of a day that meet the thresholds, keeps them in memory that has room for one on each span, and counts the records that they
 // make.
 pub(crate) fn find_cores(
-    words: &[u64],
-    day: Day,
+    day: &Day,
     least: Thresholds,
     packs: &mut [u32],
     memory: &mut [u64],
 ) -> Tally
-    requires { LentDay day.badges day.ticks words.now × Review day.badges (members day.review) × (1 ≤ least.members) × (max_cores ≤ length packs.old) × (max_cores * set_words ≤ length memory.old) }
-    ensures { FindsCores day.badges day.ticks words.now (members day.review) least result.cores result.records packs.old packs.new memory.old memory.new }
+    requires { (1 ≤ least.members) × (max_cores ≤ length packs.old) × (max_cores * set_words ≤ length memory.old) }
+    ensures { FindsCores day.now.badges day.now.ticks day.now.words.now (members day.now.review) least result.cores result.records packs.old packs.new memory.old memory.new }
 {
     let mut orders = [0u8; 97];
     let mut members = [0u64; 96 * SET_WORDS];
@@ -152,7 +149,6 @@ pub(crate) fn find_cores(
     };
     for first in 0..day.ticks {
         find_line(
-            words,
             day,
             first,
             BadgeSet::EMPTY,

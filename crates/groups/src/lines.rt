@@ -3,11 +3,9 @@ ghost use Rattle.std.specs.Prelude.{◌≡◌, ◌*◌, ◌<◌, length};
 ghost use Rattle.sets.specs.Members.{members};
 ghost use Rattle.sets.specs.Words.{set_words};
 ghost use Rattle.records.specs.Limits.{max_ticks};
-ghost use Rattle.days.specs.Days.{LentDay};
-ghost use Rattle.spans.specs.Reviews.{Review};
 ghost use Rattle.groups.specs.Lines.{CoreCounted, ScoresBefore, LineFound};
 
-use crate::day::Day;
+use crate::day::{Day, Span};
 use crate::rows::{first_rows, narrow_to};
 use checks::united;
 use circles::count_circles;
@@ -42,8 +40,7 @@ fn count_core(
 // that is in no row is in no core, and one that is not under review is in none either. The rows go into peeling by value, and those that come back are
 // what circles are found from and what the next span is narrowed from.
 pub(crate) fn find_line(
-    words: &[u64],
-    day: Day,
+    day: &Day,
     first: usize,
     query: BadgeSet,
     enough: usize,
@@ -52,11 +49,11 @@ pub(crate) fn find_line(
     circles: &mut [u8],
     large: &mut [u8],
 )
-    requires { LentDay day.badges day.ticks words.now × Review day.badges (members day.review) × (first < day.ticks) × ScoresBefore day.badges day.ticks words.now (members day.review) (members query) first orders.old × (length cores.old ≡ max_ticks * set_words) × (length circles.old ≡ max_ticks) × (length large.old ≡ max_ticks) }
-    ensures { LineFound day.badges day.ticks words.now (members day.review) (members query) first enough orders.old orders.new cores.new circles.new large.new }
+    requires { (first < day.now.ticks) × ScoresBefore day.now.badges day.now.ticks day.now.words.now (members day.now.review) (members query) first orders.old × (length cores.old ≡ max_ticks * set_words) × (length circles.old ≡ max_ticks) × (length large.old ≡ max_ticks) }
+    ensures { LineFound day.now.badges day.now.ticks day.now.words.now (members day.now.review) (members query) first enough orders.old orders.new cores.new circles.new large.new }
 {
     let mut rows = [0u64; ROW_WORDS];
-    first_rows(&mut rows, words, day, first);
+    first_rows(&mut rows, day, first);
     let mut reached = first;
     let mut upper = CAPACITY as u8;
     for last in first..day.ticks {
@@ -67,7 +64,7 @@ pub(crate) fn find_line(
             put_set(cores, last, BadgeSet::EMPTY);
             continue;
         }
-        narrow_to(&mut rows, words, day, first, reached, last);
+        narrow_to(&mut rows, day, reached, Span { first, last });
         reached = last;
         let met = united(&rows, day.badges);
         let base = met.intersection(day.review);

@@ -36,11 +36,12 @@ fn number_span(
         return Written::Refused(Refusal::InvalidSpan);
     }
     let day = Day {
+        words,
         badges,
         ticks,
         review,
     };
-    let rows = span_rows(words, day, Span { first, last });
+    let rows = span_rows(&day, Span { first, last });
     let numbers = cores::core_numbers(rows, review);
     delivered(logs::deliver(&numbers[..badges], buffer))
 }

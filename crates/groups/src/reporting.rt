@@ -23,18 +23,18 @@ use thresholds::Thresholds;
 // Puts a report into the buffer that is lent: judged by 9. The cores are found and kept, and the records of their circles counted, before the buffer is
 // touched; then the records are written straight into it. There is room for a pack and a set for a core on each of 4,656 spans. What they hold first does not
 // matter: ones are put there by wide stores, where zeros would be by a call that counts a step for each byte.
-fn report_groups(words: &[u64], day: Day, least: Thresholds, buffer: &mut [u8]) -> Written
-    requires { LentDay day.badges day.ticks words.now × Review day.badges (members day.review) × (1 ≤ least.members) }
-    ensures { DeliversReport day.badges day.ticks words.now (members day.review) least (written_outcome result) buffer.old buffer.new }
+fn report_groups(day: &Day, least: Thresholds, buffer: &mut [u8]) -> Written
+    requires { 1 ≤ least.members }
+    ensures { DeliversReport day.now.badges day.now.ticks day.now.words.now (members day.now.review) least (written_outcome result) buffer.old buffer.new }
 {
     let mut packs = [1u32; 4656];
     let mut memory = [1u64; 4656 * SET_WORDS];
-    let tally = find_cores(words, day, least, &mut packs, &mut memory);
+    let tally = find_cores(day, least, &mut packs, &mut memory);
     let size = 10 + (5 + set_bytes(day.badges)) * tally.records;
     if buffer.len() < size {
         return Written::Refused(Refusal::Log(logs::Refusal::BufferTooShort));
     }
-    write_report(words, day, least, &packs, &memory, tally.cores, buffer);
+    write_report(day, least, &packs, &memory, tally.cores, buffer);
     Written::Bytes(size)
 }
 
@@ -55,11 +55,12 @@ fn report_day(
         return Written::Refused(Refusal::ThresholdOutOfRange);
     }
     let day = Day {
+        words,
         badges,
         ticks,
         review,
     };
-    report_groups(words, day, least, buffer)
+    report_groups(&day, least, buffer)
 }
 
 // Puts the report of a day's groups, among the badges under review, into the buffer that is lent, a record for each circle of a maximal core that meets

@@ -22,7 +22,7 @@ use Rattle.groups.specs.Appending.{core_of}
 use Rattle.groups.specs.Keeping.{KeepsCores}
 use Rattle.groups.proofs.KeptMemory.{keeps-none, keeps-one}
 use Rattle.groups.proofs.keeping.keep_core.Goals as goal
-use Rattle.groups.proofs.keeping.keep_core.Goals.{After-met_by, After-pack, After-put_set, After-widen-3, Else-is_empty, Else-not-met_by}
+use Rattle.groups.proofs.keeping.keep_core.Goals.{After-met_by, After-pack, After-put_set, Else-is_empty, Else-not-met_by}
 
 -- nothing is kept where a test fails
 nothing : (least : Thresholds) (core : SpanCore) (circles large count records : ℕ) (packs memory : List ℕ) → (0 < core.members → meets least core ≡ true → ⊥)
@@ -44,9 +44,8 @@ tested : (c : goal.After-met_by) →
     let a = c.args in c.met_by.result ≡ meets a.least (core_of a.core.shown)
 unfolding meets
 tested c =
-    let w = c.before.before in
-    let long : w.widen.result + 1 ≡ span_ticks w.args.core.shown.first w.args.core.shown.last = omega (arith, w.widen.ensures.0, w.requires.4) in
-    c.met_by.ensures ∙ ap₂ (λ (t k : ℕ). are_enough w.args.least t k (size (members w.args.core.shown.members))) long c.widen-2.ensures.0
+    let long : c.from.result + 1 ≡ span_ticks c.args.core.shown.first c.args.core.shown.last = omega (arith, c.from.ensures, c.requires.4) in
+    c.met_by.ensures ∙ ap₂ (λ (t k : ℕ). are_enough c.args.least t k (size (members c.args.core.shown.members))) long c.from-2.ensures
 
 pub returns-then-not-met_by : goal.returns-then-not-met_by
 returns-then-not-met_by c =
@@ -55,7 +54,6 @@ returns-then-not-met_by c =
 
 pub returns : goal.returns
 returns c =
-    let w = (goal.at.returns c).After-widen-3 in
     let t = (goal.at.returns c).After-put_set in
     let k = (goal.at.returns c).After-pack in
     let m = (goal.at.returns c).Else-not-met_by in
@@ -67,7 +65,7 @@ returns c =
     rw (
       kept-one a.least b (core_of a.core.shown),
       keep_all (b and meets a.least (core_of a.core.shown)) (core_of a.core.shown ∷ []) (and_in _ _ (lt-ltb 0 set (omega arith)) (sym (tested (goal.at.returns c).After-met_by) ∙ m.if-not-met_by.false)),
-      w.widen-3.ensures.0,
+      c.from-3.ensures,
       t.put_set.ensures,
     )
     (keeps-one (core_of a.core.shown) a.core.circles a.large c.requires.0 c.requires.1 (omega arith) k.pack.ensures)
