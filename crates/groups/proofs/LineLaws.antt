@@ -25,7 +25,7 @@ use Rattle.spans.proofs.KeptRecords.{of-kept}
 use Rattle.spans.proofs.Maximal.{score-before-none, score-before-more, score_after, after-yes, after-no, groups-on}
 use Rattle.groups.specs.Lines.{ScoresBefore, LineFound}
 use Rattle.groups.specs.Keeping.{line_list, at_last, circle_count, record_count}
-use Rattle.groups.proofs.KeptMemory.{of-line-list}
+use Rattle.groups.proofs.KeptCores.{of-line-list}
 
 -- scores before the first tick, and before the next
 pub scores-none : (n T : ℕ) (ws : List ℕ) (base query : ℕ) → T ≤ max_ticks → ScoresBefore n T ws base query 0 (replicate (suc max_ticks) 0)

@@ -12,6 +12,7 @@ mod day;
 mod encoding;
 mod form;
 mod keeping;
+mod kept;
 mod lines;
 mod numbers;
 mod planning;

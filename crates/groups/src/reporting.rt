@@ -14,27 +14,26 @@ use crate::answer::Written;
 use crate::day::Day;
 use crate::form::set_bytes;
 use crate::keeping::find_cores;
+use crate::kept::Cores;
 use crate::refusal::Refusal;
 use crate::reviewing::{Judged, judge_review};
 use crate::writing::write_report;
-use sets::{BadgeSet, SET_WORDS};
+use sets::BadgeSet;
 use thresholds::Thresholds;
 
 // Puts a report into the buffer that is lent: judged by 9. The cores are found and kept, and the records of their circles counted, before the buffer is
-// touched; then the records are written straight into it. There is room for a pack and a set for a core on each of 4,656 spans. What they hold first does not
-// matter: ones are put there by wide stores, where zeros would be by a call that counts a step for each byte.
+// touched; then the records are written straight into it.
 fn report_groups(day: &Day, least: Thresholds, buffer: &mut [u8]) -> Written
     requires { 1 ≤ least.members }
     ensures { DeliversReport day.now.badges day.now.ticks day.now.words.now (members day.now.review) least (written_outcome result) buffer.old buffer.new }
 {
-    let mut packs = [1u32; 4656];
-    let mut memory = [1u64; 4656 * SET_WORDS];
-    let tally = find_cores(day, least, &mut packs, &mut memory);
-    let size = 10 + (5 + set_bytes(day.badges)) * tally.records;
+    let mut cores = Cores::new();
+    find_cores(day, least, &mut cores);
+    let size = 10 + (5 + set_bytes(day.badges)) * cores.records();
     if buffer.len() < size {
         return Written::Refused(Refusal::Log(logs::Refusal::BufferTooShort));
     }
-    write_report(day, least, &packs, &memory, tally.cores, buffer);
+    write_report(day, least, &cores, buffer);
     Written::Bytes(size)
 }
 

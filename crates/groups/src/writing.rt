@@ -3,13 +3,14 @@ ghost use Rattle.std.specs.Prelude.{◌≡◌, ◌∷◌, [], ◌++◌, ◌<◌}
 ghost use Rattle.sets.specs.Members.{members};
 ghost use Rattle.spans.specs.Spans.{span_words};
 ghost use Rattle.spans.specs.CircleRecords.{circles_of};
-ghost use Rattle.groups.specs.Appending.{core_of, AppendsCores, large_records, CoreToSplit, ReportCores, EncodesReport};
+ghost use Rattle.groups.specs.Appending.{AppendsCores, large_records, CoreToSplit, ReportCores, EncodesReport};
+ghost use Rattle.groups.specs.Keeping.{kept_core};
 
 use crate::circling::append_circles;
 use crate::day::{Day, Span};
-use crate::encoding::append_record;
+use crate::encoding::{Shown, append_record};
 use crate::form::{Form, form_of};
-use crate::keeping::{Kept, kept_core};
+use crate::kept::{Cores, Kept};
 use crate::rows::{first_rows, follow};
 use logs::{Record, put, put_record};
 use sets::ROW_WORDS;
@@ -33,11 +34,16 @@ fn append_core(
     buffer: &mut [u8],
     walked: Walked,
 ) -> Walked
-    requires { (rows.old ≡ span_words day.now.badges day.now.words.now walked.at.first walked.at.last) × CoreToSplit day.now.badges day.now.ticks day.now.words.now enough (core_of core.shown) core.circles form.width walked.count buffer.old }
-    ensures appended { AppendsCores form.group form.width 4 (large_records (core_of core.shown) enough (circles_of day.now.badges day.now.words.now (core_of core.shown))) walked.count result.count buffer.old buffer.new }
+    requires { (rows.old ≡ span_words day.now.badges day.now.words.now walked.at.first walked.at.last) × CoreToSplit day.now.badges day.now.ticks day.now.words.now enough (kept_core core) core.circles form.width walked.count buffer.old }
+    ensures appended { AppendsCores form.group form.width 4 (large_records (kept_core core) enough (circles_of day.now.badges day.now.words.now (kept_core core))) walked.count result.count buffer.old buffer.new }
     ensures rows { rows.new ≡ span_words day.now.badges day.now.words.now result.at.first result.at.last }
 {
-    let shown = core.shown;
+    let shown = Shown {
+        order: core.order,
+        first: core.first,
+        last: core.last,
+        members: core.members,
+    };
     if core.circles == 1 {
         let mark = form.group;
         return Walked {
@@ -46,8 +52,8 @@ fn append_core(
         };
     }
     let to = Span {
-        first: usize::from(shown.first),
-        last: usize::from(shown.last),
+        first: usize::from(core.first),
+        last: usize::from(core.last),
     };
     follow(rows, day, walked.at, to);
     Walked {
@@ -64,16 +70,9 @@ fn header_bytes(mark: [u8; 2], day: &Day) -> [u8; 4]
     [mark[0], mark[1], day.badges as u8, day.ticks as u8]
 }
 
-// Writes the report of a day, from the cores that are kept in memory, into a buffer that holds it.
-pub(crate) fn write_report(
-    day: &Day,
-    least: Thresholds,
-    packs: &[u32],
-    memory: &[u64],
-    cores: usize,
-    buffer: &mut [u8],
-)
-    requires { ReportCores day.now.badges day.now.ticks day.now.words.now (members day.now.review) least cores packs.now memory.now buffer.old }
+// Writes the report of a day, from the cores that are kept, into a buffer that holds it.
+pub(crate) fn write_report(day: &Day, least: Thresholds, cores: &Cores, buffer: &mut [u8])
+    requires { ReportCores day.now.badges day.now.ticks day.now.words.now (members day.now.review) least cores.now buffer.old }
     ensures { EncodesReport day.now.badges day.now.ticks day.now.words.now (members day.now.review) least buffer.old buffer.new }
 {
     let form = form_of(day.badges);
@@ -85,9 +84,8 @@ pub(crate) fn write_report(
         count: 0,
         at: Span { first: 0, last: 0 },
     };
-    for i in 0..cores {
-        let core = kept_core(packs, memory, i);
-        walked = append_core(day, &mut rows, core, least.members, form, buffer, walked);
+    for core in cores.all() {
+        walked = append_core(day, &mut rows, *core, least.members, form, buffer, walked);
     }
     put_record(
         buffer,

@@ -6,7 +6,7 @@ use Rattle.groups.proofs.CoresFound.{so-far-none, so-far-room, so-far-next, so-f
 use Rattle.groups.proofs.keeping.find_cores.Goals as goal
 
 pub loop-first-init : goal.loop-first-init
-loop-first-init c = let p = c.requires in so-far-none _ _ _ _ _ _ _ c.args.day.now.lent p.0 p.1 p.2
+loop-first-init c = so-far-none c.args.day.now.lent
 
 pub find_line-requires : goal.find_line-requires
 unfolding from_words
@@ -14,22 +14,16 @@ find_line-requires c =
     let s = c.loop-first.invariant in
     (c.loop-first-test.true, s.before, s.members_size, s.circles_size, s.large_size)
 
-pub keep_line-counted-requires : goal.keep_line-counted-requires
+pub keep_line-requires : goal.keep_line-requires
 unfolding from_words
-keep_line-counted-requires c = so-far-room c.args.day.now.lent c.loop-first.invariant c.loop-first-test.true c.find_line.ensures
+keep_line-requires c = so-far-room c.args.day.now.lent c.requires.0 c.requires.1 c.loop-first.invariant c.loop-first-test.true c.find_line.ensures
 
 pub overflow_step-first : goal.overflow_step-first
 overflow_step-first c = omega (arith, c.loop-first-test.true, (limits_of c.args.day.now.lent.limits).short)
 
 pub loop-first-preserved : goal.loop-first-preserved
 unfolding from_words
-loop-first-preserved c = so-far-next c.args.day.now.lent c.loop-first.invariant c.loop-first-test.true c.find_line.ensures c.keep_line-counted.ensures
-
-pub shape_of-packs : goal.shape_of-packs
-shape_of-packs c = c.loop-first.invariant.cores.packs_size
-
-pub shape_of-memory : goal.shape_of-memory
-shape_of-memory c = c.loop-first.invariant.cores.size
+loop-first-preserved c = so-far-next c.args.day.now.lent c.requires.0 c.requires.1 c.loop-first.invariant c.loop-first-test.true c.find_line.ensures c.keep_line.ensures
 
 pub returns : goal.returns
-returns c = so-far-end c.loop-first.invariant c.loop-first-test.false
+returns c = so-far-end c.args.day.now.lent c.requires.0 c.requires.1 c.loop-first.invariant c.loop-first-test.false

@@ -16,7 +16,7 @@ pub follow-requires : goal.follow-requires
 follow-requires c = (omega (arith, c.requires.1.inside, c.from-2.ensures), c.requires.0)
 
 -- they become those of the core's span
-found : (c : goal.After-follow) → let d = c.args.day.now in c.follow.new.rows ≡ span_words d.badges d.words.now c.args.core.shown.first c.args.core.shown.last
+found : (c : goal.After-follow) → let d = c.args.day.now in c.follow.new.rows ≡ span_words d.badges d.words.now c.args.core.first c.args.core.last
 found c = c.follow.ensures ∙ ap₂ (span_words _ _) c.from.ensures c.from-2.ensures
 
 pub append_circles-requires : goal.append_circles-requires
