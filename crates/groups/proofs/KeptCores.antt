@@ -12,15 +12,17 @@ use lib.Seq.{take-suc-set}
 use borrow.Author.Tests.{le-leb, leb-true, ltb-true, lt-ltb}
 use Rattle.sets.specs.Bools.{◌and◌}
 use Rattle.sets.specs.Tables.{concat_below, keep_if}
-use Rattle.sets.specs.Words.{set_at}
+use Rattle.sets.specs.Members.{members}
 use Rattle.sets.proofs.Bools.{clash, and_in, and_left, and_right}
 use Rattle.sets.proofs.Concat.{concat-nil, keep-nil, keep_all, keep-le, concat-from, of-concat, of-keep}
 use Rattle.thresholds.specs.declared.Thresholds.{Thresholds}
 use Rattle.spans.specs.SpanCores.{SpanCore, Mem}
 use Rattle.spans.specs.KeptGroups.{kept}
 use Rattle.spans.proofs.KeptRecords.{kept-le, kept_append, of-kept}
-use Rattle.groups.specs.Keeping.{kept_core, said, with_circles, total, KeepsCores, line_list, at_last}
+use Rattle.groups.specs.Keeping.{kept_core, said, with_circles, total, KeepsCores, line_list, circles_at, large_at}
 use Rattle.groups.specs.declared.kept.Kept.{Kept}
+use Rattle.groups.specs.declared.lines.Found.{Found}
+use Rattle.groups.specs.Lines.{at}
 use Rattle.groups.specs.declared.kept.Cores.{Cores}
 
 -- ---- lists of cores, one after another
@@ -77,13 +79,13 @@ keeps-one k {large} {x} {y} l number records e =
 
 -- ---- the spans with one first tick
 
-module _ (orders members : List ℕ) (first : ℕ) where
+module _ (line : List Found) (first : ℕ) where
   -- the core of the span that ends with a tick, whether it is maximal, and the list of it where that tick is not before the first
   abbrev pub span_record : ℕ → SpanCore
-  span_record last = record { order = get_or orders last 0; first = first; last = last; members = set_at members last }
+  span_record last = record { order = (at line last).order; first = first; last = last; members = members (at line last).members }
 
   abbrev pub is_group_at : ℕ → Bool
-  is_group_at last = ltb 0 (set_at members last) and ltb (get_or orders (suc last) 0) (get_or orders last 0)
+  is_group_at last = ltb 0 (members (at line last).members) and ltb ((at line (suc last)).order) ((at line last).order)
 
   abbrev pub line_cell : ℕ → List SpanCore
   line_cell last = keep_if (leb first last) (keep_if (is_group_at last) (span_record last ∷ []))
@@ -93,29 +95,29 @@ module _ (orders members : List ℕ) (first : ℕ) where
   line-none = concat-nil first line_cell (λ last h. keep-nil (leb first last) _ (λ e. let l : first ≤ last = leb-true _ _ e in omega arith))
 
   -- a turn of the loop over the last ticks: the core of the span that ends with the tick, if it is maximal and is kept
-  pub line-more : (circles large : List ℕ) (least : Thresholds) (last : ℕ) → first ≤ last → {x y z : Cores}
-      → KeepsCores (at_last circles) (at_last large) (kept least (concat_below last line_cell)) x y
-      → KeepsCores (λ c. get_or circles last 0) (λ c. get_or large last 0) (kept least (keep_if (is_group_at last) (span_record last ∷ []))) y z
-      → KeepsCores (at_last circles) (at_last large) (kept least (concat_below (last + 1) line_cell)) x z
+  pub line-more : (least : Thresholds) (last : ℕ) → first ≤ last → {x y z : Cores}
+      → KeepsCores (circles_at line) (large_at line) (kept least (concat_below last line_cell)) x y
+      → KeepsCores (λ c. (at line last).circles) (λ c. (at line last).large) (kept least (keep_if (is_group_at last) (span_record last ∷ []))) y z
+      → KeepsCores (circles_at line) (large_at line) (kept least (concat_below (last + 1) line_cell)) x z
   unfolding concat_below
-  line-more circles large least last h e f =
+  line-more least last h e f =
       rw (add-one, kept_append least (concat_below last line_cell) (line_cell last))
       (keeps_then e (rw (keep_all (leb first last) (keep_if (is_group_at last) (span_record last ∷ [])) (le-leb _ _ h)) (keeps_same here f)))
     where
-      here : (c : SpanCore) → Mem c (kept least (keep_if (is_group_at last) (span_record last ∷ []))) → (get_or circles last 0 ≡ at_last circles c) × (get_or large last 0 ≡ at_last large c)
+      here : (c : SpanCore) → Mem c (kept least (keep_if (is_group_at last) (span_record last ∷ []))) → ((at line last).circles ≡ circles_at line c) × ((at line last).large ≡ large_at line c)
       here c i =
           let e : c ≡ span_record last = Memᴰ.eq_of_singleton (of-keep (is_group_at last) _ (of-kept least _ i).0).1 in
-          (ap (λ (d : SpanCore). get_or circles d.last 0) (sym e), ap (λ (d : SpanCore). get_or large d.last 0) (sym e))
+          (ap (circles_at line) (sym e), ap (large_at line) (sym e))
 
   -- where its order is not above the next, nothing is kept; else the core is maximal if it has members
-  pub line-skip : (circles large : List ℕ) (least : Thresholds) (last : ℕ) → first ≤ last → get_or orders last 0 ≤ get_or orders (suc last) 0 → {x y : Cores}
-      → KeepsCores (at_last circles) (at_last large) (kept least (concat_below last line_cell)) x y
-      → KeepsCores (at_last circles) (at_last large) (kept least (concat_below (last + 1) line_cell)) x y
+  pub line-skip : (least : Thresholds) (last : ℕ) → first ≤ last → (at line last).order ≤ (at line (suc last)).order → {x y : Cores}
+      → KeepsCores (circles_at line) (large_at line) (kept least (concat_below last line_cell)) x y
+      → KeepsCores (circles_at line) (large_at line) (kept least (concat_below (last + 1) line_cell)) x y
   unfolding kept
-  line-skip circles large least last h l e = line-more circles large least last h e (rw (keep-nil (is_group_at last) (span_record last ∷ []) (λ t. omega (arith, ltb-true (get_or orders (suc last) 0) (get_or orders last 0) (and_right (ltb 0 (set_at members last)) _ t)))) keeps-none)
+  line-skip least last h l e = line-more least last h e (rw (keep-nil (is_group_at last) (span_record last ∷ []) (λ t. omega (arith, ltb-true ((at line (suc last)).order) ((at line last).order) (and_right (ltb 0 (members (at line last).members)) _ t)))) keeps-none)
 
-  pub line-group : (last : ℕ) → get_or orders (suc last) 0 < get_or orders last 0 → ltb 0 (set_at members last) ≡ is_group_at last
-  line-group last l = rw (lt-ltb _ _ l) (sym (both (ltb 0 (set_at members last))))
+  pub line-group : (last : ℕ) → (at line (suc last)).order < (at line last).order → ltb 0 (members (at line last).members) ≡ is_group_at last
+  line-group last l = rw (lt-ltb _ _ l) (sym (both (ltb 0 (members (at line last).members))))
     where
       fails : (b : Bool) → (b ≡ true → ⊥) → b ≡ false
       fails true f = absurd (f refl)
@@ -136,7 +138,7 @@ module _ (orders members : List ℕ) (first : ℕ) where
       cells-few = concat-from line_cell first m (λ last h. keep-nil (leb first last) _ (λ e. let l : first ≤ last = leb-true _ _ e in omega arith)) (λ last h. cell-le last)
 
   -- a core of the line: its span, and its members, of which there are some
-  pub of-line-list : (T : ℕ) (c : SpanCore) → Mem c (line_list orders members first T) → (last : ℕ) × (first ≤ last) × (last < T) × (0 < set_at members last) × (c ≡ span_record last)
+  pub of-line-list : (T : ℕ) (c : SpanCore) → Mem c (line_list line first T) → (last : ℕ) × (first ≤ last) × (last < T) × (0 < members (at line last).members) × (c ≡ span_record last)
   unfolding line_list
   of-line-list T c i =
       let x = of-concat T line_cell i in

@@ -1,9 +1,8 @@
 -- Maximal cores that are kept: what the functions promise that find them.
-use Rattle.std.specs.Prelude.{List, [], ◌∷◌, ◌++◌, map, ◌≡◌, ℕ, suc, ◌+◌, ◌-◌, ◌≤◌, ◌<◌, leb, ltb, length, get_or, take}
+use Rattle.std.specs.Prelude.{List, [], ◌∷◌, ◌++◌, map, ◌≡◌, ℕ, suc, ◌+◌, ◌-◌, ◌≤◌, ◌<◌, leb, ltb, length, take}
 use Rattle.sets.specs.Bools.{◌and◌}
 use Rattle.sets.specs.Tables.{concat_below, keep_if}
 use Rattle.sets.specs.Members.{members}
-use Rattle.sets.specs.Words.{set_at}
 use Rattle.records.specs.Limits.{max_ticks}
 use Rattle.circles.specs.Circles.{at_least}
 use Rattle.thresholds.specs.declared.Thresholds.{Thresholds}
@@ -15,6 +14,8 @@ use Rattle.spans.specs.Encoding.{max_cores}
 use Rattle.groups.specs.declared.encoding.Shown.{Shown}
 use Rattle.groups.specs.declared.kept.Kept.{Kept}
 use Rattle.groups.specs.declared.kept.Cores.{Cores}
+use Rattle.groups.specs.declared.lines.Found.{Found}
+use Rattle.groups.specs.Lines.{at}
 
 -- what a record of the program shows
 abbrev pub core_of : Shown → SpanCore
@@ -42,21 +43,21 @@ pub record KeepsCores (circles large : SpanCore → ℕ) (cores : List SpanCore)
   pub made : after.records ≡ before.records + total large cores
   pub in_kept : map said (take after.count after.kept) ≡ map said (take before.count before.kept) ++ map (with_circles circles) cores
 
--- the records of the spans that start with a tick, by last tick: those with members whose order is above the next
-unfoldable pub line_list : List ℕ → List ℕ → ℕ → ℕ → List SpanCore
-line_list orders members first T =
-    concat_below T (λ last. keep_if (leb first last) (keep_if (ltb 0 (set_at members last) and ltb (get_or orders (suc last) 0) (get_or orders last 0)) (record { order = get_or orders last 0; first = first; last = last; members = set_at members last } ∷ [])))
+-- the cores of the spans that start with a tick, by last tick: those with members whose order is above the next
+unfoldable pub line_list : List Found → ℕ → ℕ → List SpanCore
+line_list line first T =
+    concat_below T (λ last. keep_if (leb first last) (keep_if (ltb 0 (members (at line last).members) and ltb (at line (suc last)).order (at line last).order) (record { order = (at line last).order; first = first; last = last; members = members (at line last).members } ∷ [])))
 
--- what a table by last tick says of a core
-abbrev pub at_last : List ℕ → SpanCore → ℕ
-at_last table c = get_or table c.last 0
+-- how many circles a line says of a core, and how many of them have members enough
+abbrev pub circles_at : List Found → SpanCore → ℕ
+circles_at line c = (at line c.last).circles
+
+abbrev pub large_at : List Found → SpanCore → ℕ
+large_at line c = (at line c.last).large
 
 -- sizes that let a line of cores be kept: at most one for each last tick from the first tick on
-pub record LineRoom (T first : ℕ) (orders circles large : List ℕ) (cores : Cores) : Type 0 where
+pub record LineRoom (T first : ℕ) (cores : Cores) : Type 0 where
   pub short : T ≤ max_ticks
-  pub orders_size : T < length orders
-  pub circles_size : T ≤ length circles
-  pub large_size : T ≤ length large
   pub inside : first < T
   pub few : cores.count + (T - first) ≤ max_cores
 

@@ -4,12 +4,12 @@ ghost use Rattle.sets.specs.Members.{members};
 ghost use Rattle.sets.specs.Tables.{keep_if};
 ghost use Rattle.spans.specs.KeptGroups.{kept};
 ghost use Rattle.spans.specs.Encoding.{max_cores};
-ghost use Rattle.groups.specs.Keeping.{kept_core, KeepsCores, line_list, at_last, LineRoom, FindsCores};
+ghost use Rattle.groups.specs.Keeping.{kept_core, KeepsCores, line_list, circles_at, large_at, LineRoom, FindsCores};
 
 use crate::day::Day;
 use crate::kept::{Cores, Kept};
-use crate::lines::find_line;
-use sets::{BadgeSet, SET_WORDS, set_at};
+use crate::lines::{Found, LINE, find_line};
+use sets::BadgeSet;
 use thresholds::Thresholds;
 
 // Keeps a core if it has members and meets the thresholds. A core that has not members enough has no circle that has.
@@ -29,31 +29,23 @@ fn keep_core(cores: &mut Cores, core: Kept, large: u8, least: Thresholds)
 
 // Keeps the maximal cores of the spans that start with a tick and meet the thresholds, by last tick. Where the order is not above the next, the span that is
 // one tick longer at its end has a core of the same order.
-fn keep_line(
-    cores: &mut Cores,
-    orders: &[u8],
-    members: &[u64],
-    circles: &[u8],
-    large: &[u8],
-    first: usize,
-    ticks: usize,
-    least: Thresholds,
-)
-    requires { LineRoom ticks first orders.now circles.now large.now cores.old }
-    ensures { KeepsCores (at_last circles.now) (at_last large.now) (kept least (line_list orders.now members.now first ticks)) cores.old cores.new }
+fn keep_line(cores: &mut Cores, line: &[Found; LINE], first: usize, ticks: usize, least: Thresholds)
+    requires { LineRoom ticks first cores.old }
+    ensures { KeepsCores (circles_at line.now) (large_at line.now) (kept least (line_list line.now first ticks)) cores.old cores.new }
 {
     for last in first..ticks {
-        if orders[last] <= orders[last + 1] {
+        let found = line[last];
+        if found.order <= line[last + 1].order {
             continue;
         }
         let core = Kept {
-            order: orders[last],
+            order: found.order,
             first: first as u8,
             last: last as u8,
-            circles: circles[last],
-            members: set_at(members, last),
+            circles: found.circles,
+            members: found.members,
         };
-        keep_core(cores, core, large[last], least);
+        keep_core(cores, core, found.large, least);
     }
 }
 
@@ -62,23 +54,9 @@ pub(crate) fn find_cores(day: &Day, least: Thresholds, cores: &mut Cores)
     requires { (1 ≤ least.members) × (cores.old.count ≡ 0) }
     ensures { FindsCores day.now.badges day.now.ticks day.now.words.now (members day.now.review) least cores.new }
 {
-    let mut orders = [0u8; 97];
-    let mut members = [0u64; 96 * SET_WORDS];
-    let mut circles = [0u8; 96];
-    let mut large = [0u8; 96];
+    let mut line = [Found::NONE; LINE];
     for first in 0..day.ticks {
-        find_line(
-            day,
-            first,
-            BadgeSet::EMPTY,
-            least.members,
-            &mut orders,
-            &mut members,
-            &mut circles,
-            &mut large,
-        );
-        keep_line(
-            cores, &orders, &members, &circles, &large, first, day.ticks, least,
-        );
+        find_line(day, first, BadgeSet::EMPTY, least.members, &mut line);
+        keep_line(cores, &line, first, day.ticks, least);
     }
 }

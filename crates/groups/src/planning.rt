@@ -22,6 +22,7 @@ use crate::reviewing::{Judged, judge_review};
 use crate::rows::span_rows;
 use crate::scoring::fill_scores;
 use logs::{Record, put_record};
+use records::MAX_TICKS;
 use sets::BadgeSet;
 
 // The members shown of a part of a score: those of the core of this order, which contains the query, and at score 0 all badges under review. The order
@@ -67,8 +68,8 @@ fn encode_plan(
     day: &Day,
     query: BadgeSet,
     parts: usize,
-    ends: &[u8; 96],
-    scores: &[u8; 9216],
+    ends: &[u8; MAX_TICKS],
+    scores: &[u8; MAX_TICKS * MAX_TICKS],
     buffer: &mut [u8],
 )
     requires { PlanParts day.now.badges day.now.ticks day.now.words.now (members day.now.review) (members query) parts ends.now scores.now buffer.old }
@@ -88,7 +89,7 @@ fn encode_plan(
     let mut count: usize = 0;
     for i in 0..parts {
         let last = usize::from(ends[i]);
-        let score = scores[first * 96 + last];
+        let score = scores[first * MAX_TICKS + last];
         let appended = append_part(day, query, Span { first, last }, score, form, buffer, count);
         count = appended;
         first = last + 1;
@@ -134,7 +135,7 @@ fn plan_day(
     if buffer.len() < size {
         return Written::Refused(Refusal::Log(logs::Refusal::BufferTooShort));
     }
-    let mut scores = [0u8; 9216];
+    let mut scores = [0u8; MAX_TICKS * MAX_TICKS];
     let day = Day {
         words,
         badges,

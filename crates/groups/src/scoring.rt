@@ -5,16 +5,17 @@ ghost use Rattle.records.specs.Limits.{max_ticks};
 ghost use Rattle.groups.specs.Scoring.{LinePlaces, LinePut, Scores};
 
 use crate::day::Day;
-use crate::lines::find_line;
-use sets::{BadgeSet, SET_WORDS};
+use crate::lines::{Found, LINE, find_line};
+use records::MAX_TICKS;
+use sets::BadgeSet;
 
 // Puts the scores of the runs that start with a tick into its row of a table.
-fn put_line(orders: &[u8], first: usize, ticks: usize, scores: &mut [u8])
-    requires { LinePlaces ticks first orders.now scores.old }
-    ensures { LinePut ticks first orders.now scores.old scores.new }
+fn put_line(line: &[Found; LINE], first: usize, ticks: usize, scores: &mut [u8])
+    requires { LinePlaces ticks first scores.old }
+    ensures { LinePut ticks first line.now scores.old scores.new }
 {
     for last in first..ticks {
-        scores[first * 96 + last] = orders[last];
+        scores[first * MAX_TICKS + last] = line[last].order;
     }
 }
 
@@ -24,21 +25,9 @@ pub(crate) fn fill_scores(day: &Day, query: BadgeSet, scores: &mut [u8])
     requires { length scores.old ≡ max_ticks * max_ticks }
     ensures { Scores day.now.badges day.now.ticks day.now.words.now (members day.now.review) (members query) day.now.ticks scores.new }
 {
-    let mut orders = [0u8; 97];
-    let mut members = [0u64; 96 * SET_WORDS];
-    let mut circles = [0u8; 96];
-    let mut large = [0u8; 96];
+    let mut line = [Found::NONE; LINE];
     for first in 0..day.ticks {
-        find_line(
-            day,
-            first,
-            query,
-            0,
-            &mut orders,
-            &mut members,
-            &mut circles,
-            &mut large,
-        );
-        put_line(&orders, first, day.ticks, scores);
+        find_line(day, first, query, 0, &mut line);
+        put_line(&line, first, day.ticks, scores);
     }
 }

@@ -10,9 +10,7 @@ loop-first-init c = so-far-none c.args.day.now.lent
 
 pub find_line-requires : goal.find_line-requires
 unfolding from_words
-find_line-requires c =
-    let s = c.loop-first.invariant in
-    (c.loop-first-test.true, s.before, s.members_size, s.circles_size, s.large_size)
+find_line-requires c = (c.loop-first-test.true, c.loop-first.invariant.before)
 
 pub keep_line-requires : goal.keep_line-requires
 unfolding from_words

@@ -3,10 +3,10 @@ use mathlib.Core.Path.{◌≡◌}
 use Prim.Native.Nat.{suc, ◌≤◌, ◌<◌}
 use native.Mathlib.Numerals.{add-one}
 use native.Mathlib.Omega.{arith}
-use lib.ListN.{get_or}
 use borrow.Author.Rules.{rules}
 use Rattle.spans.specs.KeptGroups.{kept}
 use Rattle.groups.specs.Keeping.{line_list}
+use Rattle.groups.specs.Lines.{at}
 use Rattle.groups.proofs.KeptCores.{keeps-none, line-none, line-more, line-skip, line-group, cells-le}
 use Rattle.groups.proofs.keeping.keep_line.Goals as goal
 
@@ -14,14 +14,14 @@ pub loop-last-init : goal.loop-last-init
 unfolding kept
 loop-last-init c =
     let a = c.args in
-    (search rules, search rules, rw (line-none a.orders.now a.members.now a.first) keeps-none)
+    (search rules, search rules, rw (line-none a.line.now a.first) keeps-none)
 
-pub loop-last-preserved-then-orders-last : goal.loop-last-preserved-then-orders-last
-loop-last-preserved-then-orders-last c =
+pub loop-last-preserved-then-found-line : goal.loop-last-preserved-then-found-line
+loop-last-preserved-then-found-line c =
     let i = c.loop-last in
-    let a = c.args in
-    let low : get_or a.orders.now i.last 0 ≤ get_or a.orders.now (suc i.last) 0 = omega (arith, rw add-one at c.if-orders-last.true) in
-    (search rules, search rules, line-skip a.orders.now a.members.now a.first a.circles.now a.large.now a.least i.last i.invariant.0 low i.invariant.2)
+    let line = c.args.line.now in
+    let low : (at line i.last).order ≤ (at line (suc i.last)).order = omega (arith, rw add-one at c.if-found-line.true) in
+    (search rules, search rules, line-skip line c.args.first c.args.least i.last i.invariant.0 low i.invariant.2)
 
 pub overflow_cast-core : goal.overflow_cast-core
 overflow_cast-core c = let p = c.requires in omega (arith, p.short, p.inside)
@@ -33,14 +33,14 @@ pub keep_core-requires : goal.keep_core-requires
 keep_core-requires c =
     let a = c.args in
     let i = c.loop-last.invariant in
-    (omega (arith, c.loop-last-test.true, i.2.number, cells-le a.orders.now a.members.now a.first a.least c.loop-last.last, c.requires.few), i.0)
+    (omega (arith, c.loop-last-test.true, i.2.number, cells-le a.line.now a.first a.least c.loop-last.last, c.requires.few), i.0)
 
 pub loop-last-preserved : goal.loop-last-preserved
 loop-last-preserved c =
-    let a = c.args in
     let i = c.loop-last in
-    let high : get_or a.orders.now (suc i.last) 0 < get_or a.orders.now i.last 0 = omega (arith, rw add-one at c.if-orders-last.false) in
-    (search rules, search rules, line-more a.orders.now a.members.now a.first a.circles.now a.large.now a.least i.last i.invariant.0 i.invariant.2 (rw (c.set_at.ensures, line-group a.orders.now a.members.now a.first i.last high) at c.keep_core.ensures))
+    let line = c.args.line.now in
+    let high : (at line (suc i.last)).order < (at line i.last).order = omega (arith, rw add-one at c.if-found-line.false) in
+    (search rules, search rules, line-more line c.args.first c.args.least i.last i.invariant.0 i.invariant.2 (rw (line-group line c.args.first i.last high) at c.keep_core.ensures))
 
 pub returns : goal.returns
 unfolding line_list

@@ -8,9 +8,7 @@ pub loop-first-init : goal.loop-first-init
 loop-first-init c = scored-none c.args.day.now.lent _ _ c.requires
 
 pub find_line-requires : goal.find_line-requires
-find_line-requires c =
-    let b = c.loop-first.invariant in
-    (c.loop-first-test.true, b.before, b.members_size, b.circles_size, b.large_size)
+find_line-requires c = (c.loop-first-test.true, c.loop-first.invariant.before)
 
 pub put_line-requires : goal.put_line-requires
 put_line-requires c = scored-places c.args.day.now.lent c.loop-first.invariant c.loop-first-test.true c.find_line.ensures
