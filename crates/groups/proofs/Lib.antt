@@ -8,7 +8,7 @@ pub mod Narrowing
 pub mod RowCores
 pub mod LineLoops
 -- cores kept in memory, and those of a day
-pub mod KeptMemory
+pub mod KeptCores
 pub mod LineLaws
 pub mod CoresFound
 -- records in bytes, and those of a core's circles

@@ -2,18 +2,15 @@
 use mathlib.Core.Path.{◌≡◌, refl, sym, ap, ◌∙◌}
 use mathlib.Core.List.{List}
 use mathlib.Core.Logic.{by_cases}
-use Prim.Native.Nat.{ℕ, ◌+◌, ◌*◌, ◌≤◌, ◌<◌, min}
+use Prim.Native.Nat.{ℕ, ◌+◌, ◌≤◌, ◌<◌, min}
 use native.Mathlib.Nat.{le_refl}
 use native.Mathlib.Decide.{dec_lt}
 use native.Mathlib.Omega.{arith}
-use lib.ListN.{length, get_or, set, length-set}
+use lib.ListN.{length, set, length-set}
 use lib.Seq.{get_or-set_same, get_or-set_other}
 use Rattle.sets.specs.Sets.{Sub, intersection, full}
-use Rattle.sets.specs.Members.{capacity}
-use Rattle.sets.specs.Words.{set_words, set_at, put_set}
+use Rattle.sets.specs.Members.{capacity, members}
 use Rattle.sets.proofs.Sets.{none-sub, sub_trans}
-use Rattle.sets.proofs.Places.{put-length, put-there, put_other}
-use Rattle.records.specs.Limits.{max_ticks}
 use Rattle.records.proofs.WithinLimits.{limits_of}
 use Rattle.days.specs.Days.{LentDay}
 use Rattle.checks.proofs.TickRows.{Unites}
@@ -30,7 +27,8 @@ use Rattle.spans.specs.LongerSpans.{score_before, new_members}
 use Rattle.spans.proofs.SpanCircles.{span-circles}
 use Rattle.spans.proofs.Maximal.{score-falls, score-before-le, score-on-le, new-yes, new-no}
 use Rattle.groups.specs.Steps.{RowsTo}
-use Rattle.groups.specs.Lines.{Counted, OnlyAt, ScoresBefore, LineFound}
+use Rattle.groups.specs.declared.lines.Found.{Found}
+use Rattle.groups.specs.Lines.{none, at, Counted, ScoresBefore, LineFound}
 use Rattle.groups.proofs.RowCores.{united-cores}
 
 -- ---- one span
@@ -100,35 +98,23 @@ module _ {n T : ℕ} {ws : List ℕ} {base query first last lower upper : ℕ} {
 
 -- The pass over the last ticks, at tick last: the spans that end before it have been found, the rows are narrowed no further than to it, and
 -- no score from it on is above the upper bound.
-pub record Finding (n T : ℕ) (ws : List ℕ) (base query first : ℕ) (enough : ℕ) (orders : List ℕ) (last : ℕ) (rows : List ℕ) (reached upper : ℕ) (orders' members' circles' large' : List ℕ) : Type 0 where
+pub record Finding (n T : ℕ) (ws : List ℕ) (base query first enough : ℕ) (line : List Found) (last : ℕ) (rows : List ℕ) (reached upper : ℕ) (line' : List Found) : Type 0 where
   pub low : first ≤ last
   pub high : last ≤ T
   pub rows_to : RowsTo n ws first last rows reached
   pub above : (i : ℕ) → last ≤ i → score_on n ws base query first i ≤ upper
-  pub found : LineFound n last ws base query first enough orders orders' members' circles' large'
+  pub found : LineFound n last ws base query first enough line line'
 
--- a table that stays
-pub at_none : {place : ℕ} {table : List ℕ} → OnlyAt place table table
-at_none = record { size = refl; other = λ i f. refl }
-
--- the span of the first tick alone
-pub first-span : {n T : ℕ} {ws : List ℕ} {first : ℕ} → LentDay n T ws → first < T → SpanOfDay n T ws first first
-first-span {first = first} d l = record { lent = d; rising = le_refl first; inside = l }
-
-module _ {n T : ℕ} {ws : List ℕ} {base query first enough : ℕ} {orders : List ℕ} (d : LentDay n T ws) (r : Review n base) (l : first < T) (b : ScoresBefore n T ws base query first orders) where
+module _ {n T : ℕ} {ws : List ℕ} {base query first enough : ℕ} {line : List Found} (d : LentDay n T ws) (r : Review n base) (l : first < T) (b : ScoresBefore n T ws base query first line) where
   -- before the first tick, after one tick more, and at the end of the day
-  pub finding-start : {rows members circles large : List ℕ} → rows ≡ span_words n ws first first → length members ≡ max_ticks * set_words → length circles ≡ max_ticks → length large ≡ max_ticks
-      → Finding n T ws base query first enough orders first rows first capacity orders members circles large
-  finding-start e s u v = record {
+  pub finding-start : {rows : List ℕ} → rows ≡ span_words n ws first first → Finding n T ws base query first enough line first rows first capacity line
+  finding-start e = record {
     low = le_refl first;
     high = omega arith;
     rows_to = record { low = le_refl first; high = le_refl first; are = e };
     above = λ i p. omega (arith, score-on-le n ws base query first i, (limits_of d.limits).few);
     found = record {
-      orders_size = refl;
-      members_size = s;
-      circles_size = u;
-      large_size = v;
+      size = refl;
       after = λ i p. refl;
       score = λ i p q. absurd (omega arith);
       new = λ i p q. absurd (omega arith);
@@ -136,72 +122,50 @@ module _ {n T : ℕ} {ws : List ℕ} {base query first enough : ℕ} {orders : L
     };
   }
 
-  module _ {last : ℕ} {rows : List ℕ} {reached upper : ℕ} {orders' members' circles' large' : List ℕ} (f : Finding n T ws base query first enough orders last rows reached upper orders' members' circles' large') (k : last < T) where
+  module _ {last : ℕ} {rows : List ℕ} {reached upper : ℕ} {line' : List Found} (f : Finding n T ws base query first enough line last rows reached upper line') (k : last < T) where
     -- what is asked of the span that ends with the tick
-    pub finding-asks : CoreAsked n T ws base query first last (get_or orders' last 0) upper rows reached
+    pub finding-asks : CoreAsked n T ws base query first last (at line' last).order upper rows reached
     finding-asks = record {
       span = record { lent = d; rising = f.low; inside = k };
       named = r.named;
       rows_to = f.rows_to;
-      below = f.found.after last (le_refl last) ∙ b.score last f.low k;
+      below = ap (λ (x : Found). x.order) (f.found.after last (le_refl last)) ∙ b.score last f.low k;
       above = f.above last (le_refl last);
     }
 
-    -- the tick is a place of the orders, and of every table with a place for each tick
-    pub place-orders : last < length orders'
-    place-orders = omega (arith, f.found.orders_size, b.size, (limits_of d.limits).short)
+    -- the tick is a place of the line
+    pub place-line : last < length line'
+    place-line = omega (arith, f.found.size, b.size, (limits_of d.limits).short)
 
-    pub place-table : {size : ℕ} → size ≡ max_ticks → last < size
-    place-table e = omega (arith, e, (limits_of d.limits).short)
-
-    -- a span more is found, and its counts stand in the tables
-    pub finding-next : {order word : ℕ} {narrowed : List ℕ} {tick : ℕ} {circles'' large'' : List ℕ} → OnlyAt last circles' circles'' → OnlyAt last large' large''
-        → CoreFound n ws base query first last enough order word (get_or circles'' last 0) (get_or large'' last 0) narrowed tick
-        → Finding n T ws base query first enough orders (last + 1) narrowed tick order (set orders' last order) (put_set members' last word) circles'' large''
-    finding-next {order} {word} {narrowed} {tick} {circles''} {large''} x y c = record {
+    -- a span more is found
+    pub finding-next : {order word : ℕ} (x : Found) {narrowed : List ℕ} {tick : ℕ} → x.order ≡ order → members x.members ≡ word → CoreFound n ws base query first last enough order word x.circles x.large narrowed tick
+        → Finding n T ws base query first enough line (last + 1) narrowed tick order (set line' last x)
+    finding-next x o m c = record {
       low = omega (arith, f.low);
       high = omega arith;
       rows_to = record { low = c.rows_to.low; high = omega (arith, c.rows_to.high); are = c.rows_to.are };
       above = λ i p. omega (arith, c.score, score-falls n ws base query first last first i (omega arith) (omega arith));
       found = record {
-        orders_size = length-set orders' last order ∙ f.found.orders_size;
-        members_size = put-length members' last word ∙ f.found.members_size;
-        circles_size = x.size ∙ f.found.circles_size;
-        large_size = y.size ∙ f.found.large_size;
-        after = λ i p. get_or-set_other orders' last i order 0 (λ e. omega arith) ∙ f.found.after i (omega arith);
-        score = λ i p q. put (score_on n ws base query first) orders' order place-orders c.score f.found.score i p q;
-        new = λ i p q. by_cases (dec_lt i last) (λ r. before i r ∙ f.found.new i p r) (λ r. let t : i ≡ last = omega arith in rw t (there ∙ c.new));
-        counted = λ k i p q r. by_cases (dec_lt i last) (earlier k i p r) (λ h. here k i (omega arith) r);
+        size = length-set line' last x ∙ f.found.size;
+        after = λ i p. other i (λ e. omega arith) ∙ f.found.after i (omega arith);
+        score = λ i p q. by_cases (dec_lt i last)
+            (λ h. rw (other i (λ e. omega arith)) (f.found.score i p h))
+            (λ h. let e : i ≡ last = omega arith in rw (e, here, o) c.score);
+        new = λ i p q. by_cases (dec_lt i last)
+            (λ h. rw (other i (λ e. omega arith)) (f.found.new i p h))
+            (λ h. let e : i ≡ last = omega arith in rw (e, here, m) c.new);
+        counted = λ y i p q. by_cases (dec_lt i last)
+            (λ h. rw (other i (λ e. omega arith)) (f.found.counted y i p h))
+            (λ h. let e : i ≡ last = omega arith in rw (e, here, m) (c.counted y));
       };
     }
       where
-        -- a value put at the tick, after those of the ticks before it
-        put : (g : ℕ → ℕ) (values : List ℕ) (value : ℕ) → last < length values → value ≡ g last → ((i : ℕ) → first ≤ i → i < last → get_or values i 0 ≡ g i)
-            → (i : ℕ) → first ≤ i → i < last + 1 → get_or (set values last value) i 0 ≡ g i
-        put g values value s e h i p q = by_cases (dec_lt i last)
-            (λ r. get_or-set_other values last i value 0 (λ t. omega arith) ∙ h i p r)
-            (λ r. let t : i ≡ last = omega arith in rw t (get_or-set_same values last value 0 s ∙ e))
+        other : (i : ℕ) → (i ≡ last → ⊥) → at (set line' last x) i ≡ at line' i
+        other i h = get_or-set_other line' last i x none h
 
-        -- the set put at the tick, and those of the ticks before it
-        there : set_at (put_set members' last word) last ≡ word
-        there = put-there members' last word (omega (arith, f.found.members_size, (limits_of d.limits).short))
+        here : at (set line' last x) last ≡ x
+        here = get_or-set_same line' last x none place-line
 
-        before : (i : ℕ) → i < last → set_at (put_set members' last word) i ≡ set_at members' i
-        before i l = put_other members' last i word (λ t. omega arith)
-
-        earlier : 1 ≤ enough → (i : ℕ) → first ≤ i → 0 < set_at (put_set members' last word) i → i < last
-            → Counted (circles (span_neighbours n ws first i) (set_at (put_set members' last word) i)) enough (get_or circles'' i 0) (get_or large'' i 0)
-        earlier k i p r l =
-            let e = before i l in
-            let g = f.found.counted k i p l (rw e at r) in
-            rw (e, x.other i (λ t. omega arith), y.other i (λ t. omega arith)) g
-
-        here : 1 ≤ enough → (i : ℕ) → i ≡ last → 0 < set_at (put_set members' last word) i
-            → Counted (circles (span_neighbours n ws first i) (set_at (put_set members' last word) i)) enough (get_or circles'' i 0) (get_or large'' i 0)
-        here k i t r =
-            let s : 0 < word = rw (t, there) at r in
-            rw (t, there) (c.counted k s)
-
-pub finding-end : {n T : ℕ} {ws : List ℕ} {base query first enough : ℕ} {orders : List ℕ} {last : ℕ} {rows : List ℕ} {reached upper : ℕ} {orders' members' circles' large' : List ℕ}
-    → Finding n T ws base query first enough orders last rows reached upper orders' members' circles' large' → T ≤ last → LineFound n T ws base query first enough orders orders' members' circles' large'
+pub finding-end : {n T : ℕ} {ws : List ℕ} {base query first enough : ℕ} {line : List Found} {last : ℕ} {rows : List ℕ} {reached upper : ℕ} {line' : List Found}
+    → Finding n T ws base query first enough line last rows reached upper line' → T ≤ last → LineFound n T ws base query first enough line line'
 finding-end {T = T} {last = last} f k = let e : last ≡ T = omega (arith, f.high) in rw e at f.found

@@ -1,9 +1,9 @@
 -- Laws of the loops that work out a span's rows, narrowed tick by tick.
-use mathlib.Core.Path.{◌≡◌, refl, sym, ap, ◌∙◌}
+use mathlib.Core.Path.{◌≡◌, refl, ap, ◌∙◌}
 use mathlib.Core.List.{List}
 use mathlib.Core.Logic.{by_cases}
-use Prim.Native.Nat.{ℕ, suc, ◌+◌, ◌-◌, ◌*◌, ◌≤◌, ◌<◌}
-use native.Mathlib.Nat.{le_refl, suc-mul, mul_assoc}
+use Prim.Native.Nat.{ℕ, ◌+◌, ◌-◌, ◌*◌, ◌≤◌, ◌<◌}
+use native.Mathlib.Nat.{le_refl, mul_assoc}
 use native.Mathlib.Numerals.{add-one}
 use native.Mathlib.Decide.{dec_lt}
 use native.Mathlib.Omega.{arith}
@@ -17,29 +17,30 @@ use Rattle.records.proofs.WithinLimits.{limits_of}
 use Rattle.checks.specs.Arrays.{tick_over}
 use Rattle.days.proofs.Days.{tick-fits}
 use Rattle.checks.proofs.TickRows.{over-empty}
-use Rattle.spans.specs.Spans.{SpanOfDay, span_words}
+use Rattle.days.specs.Days.{LentDay}
+use Rattle.spans.specs.Spans.{span_words}
 use Rattle.spans.proofs.SpanRows.{span-words-length, span-set-none}
 use Rattle.groups.specs.Steps.{tick_of, NextTick, Narrows, RowsTo, EmptyFrom}
 use Rattle.groups.proofs.TickRows.{tick-span}
 
--- the words of a tick of a span are among the words, those of t * n sets before them, and those of n sets from there are the tick's
-pub tick-inside : {n T : ℕ} {ws : List ℕ} {first last : ℕ} (t : ℕ) → SpanOfDay n T ws first last → t ≤ last → t * (n * set_words) + n * set_words ≤ length ws
-tick-inside {n} {T} t d l = omega (arith, d.inside, d.lent.enough, tick-fits t T n (omega (arith, d.inside)), mul_assoc t n set_words)
+-- the words of a tick are among the words, those of t * n sets before them, and those of n sets from there are the tick's
+pub tick-inside : {n T : ℕ} {ws : List ℕ} (t : ℕ) → LentDay n T ws → t < T → t * (n * set_words) + n * set_words ≤ length ws
+tick-inside {n} {T} t d l = omega (arith, d.enough, tick-fits t T n (omega arith), mul_assoc t n set_words)
 
-slice-tick : (n : ℕ) (ws : List ℕ) (t : ℕ) {at : ℕ} → at ≡ t * (n * set_words) → take (at + n * set_words - at) (drop at ws) ≡ tick_of n ws t
+pub slice-tick : (n : ℕ) (ws : List ℕ) (t : ℕ) → take (t * (n * set_words) + n * set_words - t * (n * set_words)) (drop (t * (n * set_words)) ws) ≡ tick_of n ws t
 unfolding tick_of
-slice-tick n ws t {at} e =
-    let f : at + n * set_words - at ≡ n * set_words = omega arith in
-    let g : at ≡ t * n * set_words = e ∙ sym (mul_assoc t n set_words) in
-    rw (f, g)
+slice-tick n ws t =
+    let f : t * (n * set_words) + n * set_words - t * (n * set_words) ≡ n * set_words = omega arith in
+    rw (f, ← mul_assoc t n set_words)
 
--- a part of words that are words
-tick-fit : (n : ℕ) (ws : List ℕ) (at : ℕ) → Words ws → Words (take (at + n * set_words - at) (drop at ws))
-tick-fit n ws at w = words_take (at + n * set_words - at) (words-drop at w)
-
-tick-length : (n : ℕ) (ws : List ℕ) (t : ℕ) → t * (n * set_words) + n * set_words ≤ length ws → length (tick_of n ws t) ≡ n * set_words
+-- they are words if all are, and as many as n sets have
+pub tick-fit : (n : ℕ) (ws : List ℕ) (t : ℕ) → Words ws → Words (tick_of n ws t)
 unfolding tick_of
-tick-length n ws t l = length-take-le (n * set_words) (drop (t * n * set_words) ws) (omega (arith, length-drop (t * n * set_words) ws, mul_assoc t n set_words))
+tick-fit n ws t w = words_take (n * set_words) (words-drop (t * n * set_words) w)
+
+tick-length : {n T : ℕ} {ws : List ℕ} (t : ℕ) → LentDay n T ws → t < T → length (tick_of n ws t) ≡ n * set_words
+unfolding tick_of
+tick-length {n} {T} {ws} t d l = length-take-le (n * set_words) (drop (t * n * set_words) ws) (omega (arith, tick-inside t d l, length-drop (t * n * set_words) ws, mul_assoc t n set_words))
 
 -- an array of empty rows, and the rows of a span, which are empty from n up
 pub empty-zeros : (n : ℕ) → EmptyFrom n (replicate row_words 0)
@@ -52,71 +53,45 @@ empty-zeros n = record {
 pub empty-span : (n : ℕ) (ws : List ℕ) (first last : ℕ) {rows : List ℕ} → rows ≡ span_words n ws first last → EmptyFrom n rows
 empty-span n ws first last e = rw e (record { past = λ u l. span-set-none n ws first last u l })
 
--- The pass over a span's ticks, at tick t: its words start at a place, and the rows found so far are those of the span from tick first to t.
-pub record Going (n : ℕ) (ws : List ℕ) (first last t at : ℕ) (found : List ℕ) : Type 0 where
-  pub low : first ≤ t
-  pub high : t ≤ last
-  pub place : at ≡ t * (n * set_words)
-  pub rows : found ≡ span_words n ws first t
-
--- at the tick reached before, after one tick more, and at the last tick
-pub going_start : {n : ℕ} {ws : List ℕ} {first last reached : ℕ} {rows : List ℕ} → RowsTo n ws first last rows reached → Going n ws first last reached (reached * (n * set_words)) rows
-going_start r = record { low = r.low; high = r.high; place = refl; rows = r.are }
-
-module _ {n T : ℕ} {ws : List ℕ} {first last : ℕ} (d : SpanOfDay n T ws first last) where
+module _ {n T : ℕ} {ws : List ℕ} (d : LentDay n T ws) where
   few : n ≤ capacity
-  few = (limits_of d.lent.limits).few
+  few = (limits_of d.limits).few
 
   -- the rows of the first tick are those of its span
-  pub first-tick : {given rows : List ℕ} → EmptyFrom n given
-      → rows ≡ words_of (tick_over (take (first * (n * set_words) + n * set_words - first * (n * set_words)) (drop (first * (n * set_words)) ws)) given) → rows ≡ span_words n ws first first
-  first-tick {given} z e =
-      let whole : length (tick_of n ws first) ≡ n * set_words = tick-length n ws first (tick-inside first d d.rising) in
-      e ∙ ap (λ (tick : List ℕ). words_of (tick_over tick given)) (slice-tick n ws first refl)
-      ∙ ap words_of (over-empty (tick_of n ws first) given (λ u l. z.past u (omega arith)) ∙ tick-span n T ws first d.lent.day (omega (arith, d.rising, d.inside)))
+  pub first-tick : {first : ℕ} {given rows : List ℕ} → first < T → EmptyFrom n given → rows ≡ words_of (tick_over (tick_of n ws first) given) → rows ≡ span_words n ws first first
+  first-tick {first} {given} l z e =
+      let whole = tick-length first d l in
+      e ∙ ap words_of (over-empty (tick_of n ws first) given (λ u l. z.past u (omega (arith, whole))) ∙ tick-span n T ws first d.day l)
 
-  -- and a longer span starts with them
-  pub first_of : {rows : List ℕ} → rows ≡ span_words n ws first first → RowsTo n ws first last rows first
-  first_of e = record { low = le_refl first; high = d.rising; are = e }
-
-  -- the span of its first tick alone
-  pub first_alone : SpanOfDay n T ws first first
-  first_alone = record { lent = d.lent; rising = le_refl first; inside = omega (arith, d.rising, d.inside) }
-
-  module _ {t at : ℕ} {rows : List ℕ} (g : Going n ws first last t at rows) (l : t < last) where
-    next_place : at + n * set_words ≡ suc t * (n * set_words)
-    next_place = omega (arith, g.place, suc-mul t (n * set_words))
-
-    pub next-inside : at + n * set_words + n * set_words ≤ length ws
-    next-inside = omega (arith, next_place, tick-inside (suc t) d l)
-
-    next-length : length (take (at + n * set_words + n * set_words - (at + n * set_words)) (drop (at + n * set_words) ws)) ≡ n * set_words
-    next-length =
-        let e : at + n * set_words + n * set_words - (at + n * set_words) ≡ n * set_words = omega arith in
-        rw e (length-take-le (n * set_words) (drop (at + n * set_words) ws) (omega (arith, next-inside, length-drop (at + n * set_words) ws)))
-
-    -- the words from there on are those of the next tick
-    pub going_step : Words ws → NextTick rows (take (at + n * set_words + n * set_words - (at + n * set_words)) (drop (at + n * set_words) ws))
-    going_step fit = record {
+  module _ {first last t : ℕ} {rows : List ℕ} (g : RowsTo n ws first last rows t) (l : t < last) (h : last < T) where
+    -- the words of the next tick narrow them
+    pub to_step : Words (tick_of n ws (t + 1)) → NextTick rows (tick_of n ws (t + 1))
+    to_step fit = record {
       badges = n;
       words = ws;
       first = first;
       last = t;
       few = few;
       rising = g.low;
-      span = g.rows;
-      next = slice-tick n ws (suc t) next_place;
-      whole = next-length;
-      fit = tick-fit n ws (at + n * set_words) fit;
+      span = g.are;
+      next = rw add-one refl;
+      whole = tick-length (t + 1) d (omega arith);
+      fit = fit;
     }
 
-    pub going_next : {longer : List ℕ} → Narrows rows (take (at + n * set_words + n * set_words - (at + n * set_words)) (drop (at + n * set_words) ws)) longer → Words ws → Going n ws first last (t + 1) (at + n * set_words) longer
-    unfolding going_step
-    going_next h fit = rw add-one (record { low = omega (arith, g.low); high = l; place = next_place; rows = h.span (going_step fit) })
+    -- to the rows of the span that is longer by it
+    pub to_next : {longer : List ℕ} → Narrows rows (tick_of n ws (t + 1)) longer → Words (tick_of n ws (t + 1)) → RowsTo n ws first last longer (t + 1)
+    unfolding to_step
+    to_next n fit = record { low = omega (arith, g.low); high = omega arith; are = rw add-one (n.span (to_step fit)) }
+
+-- a longer span starts with the rows of its first tick
+pub first_of : {n : ℕ} {ws : List ℕ} {first last : ℕ} {rows : List ℕ} → first ≤ last → rows ≡ span_words n ws first first → RowsTo n ws first last rows first
+first_of {first = first} l e = record { low = le_refl first; high = l; are = e }
 
 -- the words of a span's rows are as many as all rows have
-pub going-size : {n : ℕ} {ws : List ℕ} {first last t at : ℕ} {rows : List ℕ} → Going n ws first last t at rows → length rows ≡ row_words
-going-size {n} {ws} {first} {t = t} g = ap length g.rows ∙ span-words-length n ws first t
+pub to-size : {n : ℕ} {ws : List ℕ} {first last t : ℕ} {rows : List ℕ} → RowsTo n ws first last rows t → length rows ≡ row_words
+to-size {n} {ws} {first} {t = t} g = ap length g.are ∙ span-words-length n ws first t
 
-pub going_end : {n : ℕ} {ws : List ℕ} {first last t at : ℕ} {rows : List ℕ} → Going n ws first last t at rows → last ≤ t → rows ≡ span_words n ws first last
-going_end {n} {ws} {first} {last} {t} g l = let e : t ≡ last = omega (arith, g.high) in g.rows ∙ ap (span_words n ws first) e
+-- at the last tick
+pub to_end : {n : ℕ} {ws : List ℕ} {first last t : ℕ} {rows : List ℕ} → RowsTo n ws first last rows t → last ≤ t → rows ≡ span_words n ws first last
+to_end {n} {ws} {first} {last} {t} g l = let e : t ≡ last = omega (arith, g.high) in g.are ∙ ap (span_words n ws first) e

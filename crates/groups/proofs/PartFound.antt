@@ -1,7 +1,7 @@
 -- What is found from the rows of a run is its part.
 use mathlib.Core.Path.{◌≡◌, refl, ap, ◌∙◌}
 use mathlib.Core.List.{List}
-use Prim.Native.Nat.{ℕ, zero, suc, ◌-◌, ◌<◌, min}
+use Prim.Native.Nat.{ℕ, zero, suc, ◌-◌, ◌≤◌, ◌<◌, min}
 use native.Mathlib.Omega.{arith}
 use Rattle.cores.specs.Orders.{HighestFound}
 use Rattle.cores.specs.Rows.{graph}
@@ -9,13 +9,14 @@ use Rattle.cores.proofs.Orders.{highest-yes, found_among}
 use Rattle.innermost.specs.Columns.{transposed}
 use Rattle.innermost.proofs.Columns.{symmetric-climbed}
 use Rattle.records.proofs.WithinLimits.{limits_of}
-use Rattle.spans.specs.Spans.{SpanOfDay, span_neighbours, span_words}
+use Rattle.days.specs.Days.{LentDay}
+use Rattle.spans.specs.Spans.{span_neighbours, span_words}
 use Rattle.spans.specs.Reviews.{Review}
 use Rattle.spans.specs.SpanCores.{core_on}
 use Rattle.spans.specs.Plans.{score_on, members_on, part_on}
 use Rattle.groups.proofs.RowCores.{rows-cores, rows-symmetric}
 
-module _ {n T : ℕ} {ws : List ℕ} {base first last : ℕ} (d : SpanOfDay n T ws first last) (r : Review n base) (query : ℕ) {score : ℕ} (s : score ≡ score_on n ws base query first last) where
+module _ {n T : ℕ} {ws : List ℕ} {base first last : ℕ} (lent : LentDay n T ws) (rising : first ≤ last) (inside : last < T) (r : Review n base) (query : ℕ) {score : ℕ} (s : score ≡ score_on n ws base query first last) where
   -- at score 0 the reviewed set is shown
   pub members-all : score ≡ 0 → base ≡ members_on n ws base score first last
   unfolding members_on
@@ -27,7 +28,7 @@ module _ {n T : ℕ} {ws : List ℕ} {base first last : ℕ} (d : SpanOfDay n T 
   unfolding members_on core_on score_on
   members-core {rows} {order} {core} e p h =
       let m : min score (score_on n ws base query first last) ≡ score = omega (arith, s) in
-      let found = found_among (rows-cores n ws first last (limits_of d.lent.limits).few r.named e) (symmetric-climbed (rows-symmetric d e base r.named) h) in
+      let found = found_among (rows-cores n ws first last (limits_of lent.limits).few r.named e) (symmetric-climbed (rows-symmetric (record { lent = lent; rising = rising; inside = inside }) e base r.named) h) in
       found.members
       ∙ highest-yes (span_neighbours n ws first last) base query (score - 1) score (omega (arith, m))
       ∙ ap (λ (k : ℕ). core_on n ws base k first last) m

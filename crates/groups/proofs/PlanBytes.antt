@@ -11,12 +11,10 @@ use Rattle.records.specs.declared.record.Record.TheVariants.{End}
 use Rattle.records.specs.Limits.{max_ticks}
 use Rattle.records.specs.Records.{encode}
 use Rattle.records.proofs.Records.{length-encode}
-use Rattle.records.proofs.WithinLimits.{limits_of}
 use Rattle.logs.specs.Buffers.{place}
 use Rattle.logs.proofs.Delivering.{take-place, drop-place}
 use Rattle.cuts.specs.Cuttings.{Cutting}
 use Rattle.cuts.specs.Sums.{table_score}
-use Rattle.spans.specs.Spans.{SpanOfDay}
 use Rattle.spans.specs.SpanCores.{SpanCore}
 use Rattle.spans.specs.Plans.{score_on, part_on, parts_from}
 use Rattle.spans.specs.Encoding.{Form, form_of, core_bytes, record_bytes, encode_core, encode_cores, plan_bytes}
@@ -65,7 +63,7 @@ pub record PlanSoFar (n T : ℕ) (ws : List ℕ) (base query h : ℕ) (ends scor
 
 -- a buffer of the same length does as well
 same-room : {n T : ℕ} {ws : List ℕ} {base query h : ℕ} {ends scores x y : List ℕ} → length y ≡ length x → PlanParts n T ws base query h ends scores x → PlanParts n T ws base query h ends scores y
-same-room e p = record { lent = p.lent; reviewed = p.reviewed; scored = p.scored; cutting = p.cutting; ends_size = p.ends_size; room = omega (arith, p.room) }
+same-room e p = record { scored = p.scored; cutting = p.cutting; ends_size = p.ends_size; room = omega (arith, p.room) }
 
 -- there are no more parts than ticks
 pub parts-few : {n T : ℕ} {ws : List ℕ} {base query h : ℕ} {ends scores buffer : List ℕ} → PlanParts n T ws base query h ends scores buffer → h ≤ max_ticks
@@ -80,16 +78,16 @@ module _ {n T : ℕ} {ws : List ℕ} {base query h : ℕ} {ends scores : List �
   plan-few = omega (arith, parts-few s.asked, s.number, s.high)
 
   module _ (l : i < h) where
-    pub plan-span : SpanOfDay n T ws first (get_or ends i 0)
-    plan-span = record { lent = s.asked.lent; rising = s.low l; inside = end-inside T h ends s.asked.cutting (h - suc i) i (omega arith) }
+    pub plan-inside : get_or ends i 0 < T
+    plan-inside = end-inside T h ends s.asked.cutting (h - suc i) i (omega arith)
 
     -- the run's place in the table of scores, and the score that stands there
-    pub plan-place : first * 96 + get_or ends i 0 < 9216
-    plan-place = omega (arith, plan-span.rising, plan-span.inside, (limits_of s.asked.lent.limits).short)
+    pub plan-place : T ≤ max_ticks → first * max_ticks + get_or ends i 0 < max_ticks * max_ticks
+    plan-place short = omega (arith, s.low l, plan-inside)
 
-    pub plan-score : get_or scores (first * 96 + get_or ends i 0) 0 ≡ score_on n ws base query first (get_or ends i 0)
+    pub plan-score : get_or scores (first * max_ticks + get_or ends i 0) 0 ≡ score_on n ws base query first (get_or ends i 0)
     unfolding table_score
-    plan-score = s.asked.scored.score first (get_or ends i 0) (omega (arith, plan-span.rising, plan-span.inside)) plan-span.rising plan-span.inside
+    plan-score = s.asked.scored.score first (get_or ends i 0) (omega (arith, s.low l, plan-inside)) (s.low l) plan-inside
 
     -- there is room for the part, in the form that the program has
     module _ {f : Form} (same : f ≡ form_of n) where

@@ -2,14 +2,11 @@
 use mathlib.Core.Path.{◌≡◌, refl, sym, ap, ap₂, subst, ◌∙◌}
 use mathlib.Core.Bool.{true}
 use mathlib.Core.List.Memᴰ
-use mathlib.Core.List.{List, [], ◌∷◌, ◌++◌, append_assoc, append-nil}
+use mathlib.Core.List.{List, [], ◌∷◌, ◌++◌, map, append_assoc, append-nil}
 use Prim.Native.Nat.{ℕ, ◌+◌, ◌*◌, ◌≤◌, ◌<◌}
 use native.Mathlib.Nat.{mul-le-mul_left}
 use native.Mathlib.Omega.{arith}
 use lib.ListN.{length, get_or, take, drop, take-append-drop, length-append}
-use Rattle.sets.specs.Words.{set_at, words_of}
-use Rattle.sets.specs.Members.{capacity}
-use Rattle.sets.proofs.Size.{size-le}
 use Rattle.records.specs.declared.record.Record.TheVariants.{End}
 use Rattle.records.specs.Outcomes.{refused, success}
 use Rattle.records.specs.Records.{encode}
@@ -20,29 +17,30 @@ use Rattle.logs.specs.Buffers.{place}
 use Rattle.logs.proofs.Delivering.{length-place, take-place, drop-place, deliver-fits, deliver-short}
 use Rattle.cores.specs.Rows.{graph}
 use Rattle.circles.specs.Circles.{at_least, circles as circles'}
-use Rattle.circles.proofs.CircleLists.{circles-few}
 use Rattle.thresholds.specs.declared.Thresholds.{Thresholds}
-use Rattle.spans.specs.Spans.{span_neighbours, span_words}
+use Rattle.spans.specs.Spans.{SpanOfDay, span_words}
 use Rattle.spans.specs.Reviews.{Review}
 use Rattle.spans.specs.SpanCores.{SpanCore, Mem}
 use Rattle.spans.specs.Reports.{groups_of}
 use Rattle.spans.specs.KeptGroups.{meets, kept}
 use Rattle.spans.specs.CircleRecords.{circles_of, records_of, circle_records, shown_records}
 use Rattle.spans.specs.CoreStatement.{CoreStatement}
-use Rattle.spans.specs.Encoding.{Form, max_cores, max_records, form_of, core_bytes, record_bytes, encode_cores, report_bytes}
+use Rattle.spans.specs.Encoding.{Form, max_records, form_of, core_bytes, record_bytes, encode_cores, report_bytes}
 use Rattle.spans.proofs.SpanCircles.{day-small, span-circles}
-use Rattle.spans.proofs.GroupLists.{of-groups, group-few, groups-stated, cores-stated}
-use Rattle.spans.proofs.KeptRecords.{meets-of, of-kept, kept_append, kept-records, kept-le}
+use Rattle.spans.proofs.GroupLists.{groups-stated, cores-stated}
+use Rattle.spans.proofs.KeptRecords.{meets-of, of-kept, kept_append, kept-records}
 use Rattle.spans.proofs.KeptCores.{kept-enough, whole-circle}
 use Rattle.spans.proofs.RecordLists.{circle-records-append}
 use Rattle.spans.proofs.CircleStated.{core-span, core-inside, core-small}
 use Rattle.spans.proofs.Forms.{marked}
-use Rattle.spans.proofs.MostGroups.{report-length, groups-few}
+use Rattle.spans.proofs.MostGroups.{report-length}
 use Rattle.spans.proofs.MostRecords.{records_few, most-small}
-use Rattle.groups.specs.Keeping.{packs_of, sets_of, total, Unpacked, circle_count, record_count, FindsCores}
-use Rattle.groups.specs.Appending.{AppendsCores, large_records, RowsOf, CoreToSplit, shown_bytes, ReportCores, EncodesReport, DeliversReport}
+use Rattle.groups.specs.Keeping.{kept_core, with_circles, total, circle_count, record_count, FindsCores}
+use Rattle.groups.specs.declared.kept.Kept.{Kept}
+use Rattle.groups.specs.declared.kept.Cores.{Cores}
+use Rattle.groups.specs.Appending.{AppendsCores, large_records, CoreToSplit, shown_bytes, ReportCores, EncodesReport, DeliversReport}
 use Rattle.groups.proofs.Appended.{further, appends-none, appends-then}
-use Rattle.groups.proofs.KeptMemory.{kept_at}
+use Rattle.groups.proofs.KeptCores.{kept_at}
 use Rattle.groups.proofs.CircleLoop.{circle-room, large-one, large-length}
 
 -- ---- the cores that are kept
@@ -68,19 +66,6 @@ module _ {n T : ℕ} {ws : List ℕ} {base : ℕ} (lent : LentDay n T ws) (r : R
     unfolding record_count
     record-length = sym (large-length c least.members (circles_of n ws c)) ∙ ap length core-records
 
-    -- what is said of it fits a byte each
-    core-bytes : (c.order < 256) × (c.first < 256) × (c.last < 256) × (circle_count n ws c < 256)
-    unfolding circle_count circles_of
-    core-bytes =
-        let limits = limits_of lent.limits in
-        let shown = of-groups n T ws base c (of-kept least (groups_of n T ws base) i).0 in
-        let small = core-small lent r.named stated c i in (
-          omega (arith, limits.few, group-few n T ws base c.order c.first c.last shown.rising shown.inside shown.group),
-          omega (arith, limits.short, shown.rising, shown.inside),
-          omega (arith, limits.short, shown.inside),
-          omega (arith, circles-few (span_neighbours n ws c.first c.last) c.members small, size-le capacity c.members small),
-        )
-
   -- the cores that are kept make the records of the report
   cores-shown : kept least (circle_records n ws cores) ≡ shown_records n T ws base least
   unfolding shown_records
@@ -99,40 +84,21 @@ module _ {n T : ℕ} {ws : List ℕ} {base : ℕ} (lent : LentDay n T ws) (r : R
         length-append (kept least (records_of n ws c)) (kept least (circle_records n ws cs)),
       )
 
-  found-records : {count records : ℕ} {packs packs' memory memory' : List ℕ} → FindsCores n T ws base least count records packs packs' memory memory' → records ≡ length (shown_records n T ws base least)
-  found-records f = omega (arith, f.made, total-records cores (λ c i. i), ap length cores-shown)
+  module _ {found : Cores} (f : FindsCores n T ws base least found) where
+    found-records : found.records ≡ length (shown_records n T ws base least)
+    found-records = omega (arith, f.made, total-records cores (λ c i. i), ap length cores-shown)
 
-  pub found-few : {count records : ℕ} {packs packs' memory memory' : List ℕ} → FindsCores n T ws base least count records packs packs' memory memory' → (count ≤ max_cores) × (records ≤ 255 * max_cores)
-  found-few f =
-      let few = groups-few n T ws base (limits_of lent.limits).short in
-      let h = f.few (omega arith) in
-      (omega (arith, f.number, kept-le least (groups_of n T ws base)), omega (arith, h, f.number, kept-le least (groups_of n T ws base)))
-
-  -- so long is the report, by the bytes of a set, and the memory and a buffer that holds it are what it is written from
-  pub found-size : {w count records : ℕ} {packs packs' memory memory' : List ℕ} → w ≡ (form_of n).set_bytes → FindsCores n T ws base least count records packs packs' memory memory'
-      → 10 + core_bytes w * records ≡ length (shown_bytes n T ws base least)
-  found-size same f = rw same (ap (λ (k : ℕ). 10 + record_bytes n * k) (found-records f) ∙ sym (report-length n T (shown_records n T ws base least)))
-
-  pub found-cores : {w count records : ℕ} {packs packs' memory memory' buffer : List ℕ} → w ≡ (form_of n).set_bytes → FindsCores n T ws base least count records packs packs' memory memory' → max_cores ≤ length packs → 10 + core_bytes w * records ≤ length buffer
-      → ReportCores n T ws base least count packs' memory' buffer
-  found-cores same f m h = record {
-    lent = lent;
-    reviewed = r;
-    number = omega (arith, f.number);
-    in_packs = f.in_packs;
-    in_memory = f.in_memory;
-    few = (found-few f).0;
-    size = omega (arith, (found-few f).0, f.packs_size);
-    room = omega (arith, found-size same f);
-  }
+    -- so long is the report, by the bytes of a set, and a buffer that holds it is room for it
+    pub found-size : {w records : ℕ} → w ≡ (form_of n).set_bytes → records ≡ found.records → 10 + core_bytes w * records ≡ length (shown_bytes n T ws base least)
+    found-size same made = rw (same, made) (ap (λ (k : ℕ). 10 + record_bytes n * k) found-records ∙ sym (report-length n T (shown_records n T ws base least)))
 
 -- ---- a core that is split
 
-module _ {n T : ℕ} {ws : List ℕ} {enough : ℕ} {c : SpanCore} {circles w count : ℕ} {buffer : List ℕ} (d : CoreToSplit n T ws enough c circles w count buffer) where
+module _ {n T : ℕ} {ws : List ℕ} {enough : ℕ} {c : SpanCore} {circles w count : ℕ} {buffer : List ℕ} (lent : LentDay n T ws) (d : CoreToSplit n T ws enough c circles w count buffer) where
   -- a core of one circle is its own record, and has room
   pub whole-record : circles ≡ 1 → large_records c enough (circles_of n ws c) ≡ c ∷ []
   whole-record e =
-      let f : circles_of n ws c ≡ c.members ∷ [] = whole-circle n ws c (sym d.number ∙ e) (day-small d.span.lent c.members d.named) in
+      let f : circles_of n ws c ≡ c.members ∷ [] = whole-circle n ws c (sym d.number ∙ e) (day-small lent c.members d.named) in
       rw f (large-one c enough c.members d.many)
 
   pub whole_room : circles ≡ 1 → (w ≤ 16) × (4 + core_bytes w * count + core_bytes w ≤ length buffer)
@@ -141,7 +107,7 @@ module _ {n T : ℕ} {ws : List ℕ} {enough : ℕ} {c : SpanCore} {circles w co
   -- the circles of any other are found from the rows of its span
   pub split-circles : {rows : List ℕ} → rows ≡ span_words n ws c.first c.last → circles' (graph rows) c.members ≡ circles_of n ws c
   unfolding circles_of
-  split-circles e = rw e (span-circles d.span c.members d.named)
+  split-circles e = rw e (span-circles (record { lent = lent; rising = d.rising; inside = d.inside }) c.members d.named)
 
 -- ---- the report as it is written
 
@@ -152,17 +118,17 @@ pub record ReportSoFar (n T : ℕ) (ws : List ℕ) (base : ℕ) (least : Thresho
   pub all : kept least (groups_of n T ws base) ≡ done ++ left
   pub turn : i ≡ length done
   pub appended : AppendsCores (form_of n).group (form_of n).set_bytes 4 (kept least (circle_records n ws done)) 0 count buffer₀ buffer
-  pub rows_of : RowsOf n T ws first last rows
+  pub rows_are : rows ≡ span_words n ws first last
 
-pub written_none : {n T : ℕ} {ws : List ℕ} {base : ℕ} {least : Thresholds} {rows buffer : List ℕ} → RowsOf n T ws 0 0 rows → ReportSoFar n T ws base least 0 0 0 0 rows buffer buffer
+pub written_none : {n T : ℕ} {ws : List ℕ} {base : ℕ} {least : Thresholds} {rows buffer : List ℕ} → rows ≡ span_words n ws 0 0 → ReportSoFar n T ws base least 0 0 0 0 rows buffer buffer
 unfolding circle_records kept
-written_none {n} {T} {ws} {base} {least} r = record { done = []; left = kept least (groups_of n T ws base); all = refl; turn = refl; appended = appends-none; rows_of = r }
+written_none {n} {T} {ws} {base} {least} r = record { done = []; left = kept least (groups_of n T ws base); all = refl; turn = refl; appended = appends-none; rows_are = r }
 
-module _ {n T : ℕ} {ws : List ℕ} {base : ℕ} {least : Thresholds} {cores : ℕ} {packs memory given : List ℕ} (p : ReportCores n T ws base least cores packs memory given) where
+module _ {n T : ℕ} {ws : List ℕ} {base : ℕ} {least : Thresholds} {found : Cores} {given : List ℕ} (lent : LentDay n T ws) (reviewed : Review n base) (p : ReportCores n T ws base least found given) where
   -- the records of the cores before a place and from it on are those of the report
   shown-apart : (xs ys : List SpanCore) → kept least (groups_of n T ws base) ≡ xs ++ ys → shown_records n T ws base least ≡ kept least (circle_records n ws xs) ++ kept least (circle_records n ws ys)
   shown-apart xs ys e =
-      sym (cores-shown p.lent p.reviewed least) ∙ ap (λ (cs : List SpanCore). kept least (circle_records n ws cs)) e ∙ ap (kept least) (circle-records-append n ws xs ys)
+      sym (cores-shown lent reviewed least) ∙ ap (λ (cs : List SpanCore). kept least (circle_records n ws cs)) e ∙ ap (kept least) (circle-records-append n ws xs ys)
       ∙ kept_append least (circle_records n ws xs) (circle_records n ws ys)
 
   room_for : (xs ys : List SpanCore) → kept least (groups_of n T ws base) ≡ xs ++ ys → 10 + record_bytes n * (length (kept least (circle_records n ws xs)) + length (kept least (circle_records n ws ys))) ≤ length given
@@ -179,23 +145,23 @@ module _ {n T : ℕ} {ws : List ℕ} {base : ℕ} {least : Thresholds} {cores : 
     -- so far there are few
     pub written-few : count ≤ max_records
     written-few =
-        let limits = limits_of p.lent.limits in
+        let limits = limits_of lent.limits in
         omega (
           arith,
           s.appended.number,
           ap length (shown-apart s.done s.left s.all),
           length-append (kept least (circle_records n ws s.done)) (kept least (circle_records n ws s.left)),
-          records_few p.lent p.reviewed.named least,
+          records_few lent reviewed.named least,
           most-small limits.few limits.short,
         )
 
-    module _ (l : i < cores) where
+    module _ (l : i < found.count) where
       -- the core whose turn it is, and those after it
       next : (c : SpanCore) × (cs : List SpanCore) × (s.left ≡ c ∷ cs)
       next = go s.left refl
         where
           go : (left : List SpanCore) → s.left ≡ left → (c : SpanCore) × (cs : List SpanCore) × (s.left ≡ c ∷ cs)
-          go [] e = absurd (omega (arith, p.number, s.turn, ap length s.all, length-append s.done s.left, ap length e))
+          go [] e = absurd (omega (arith, p.found.number, s.turn, ap length s.all, length-append s.done s.left, ap length e))
           go (c ∷ cs) e = (c, cs, e)
 
       abbrev core : SpanCore
@@ -210,49 +176,50 @@ module _ {n T : ℕ} {ws : List ℕ} {base : ℕ} {least : Thresholds} {cores : 
       core-in : Mem core (kept least (groups_of n T ws base))
       core-in = subst (λ (cs : List SpanCore). Mem core cs) (sym apart) (Memᴰ.append_right s.done (Memᴰ.head refl))
 
-      -- its pack is among the packs
-      pub pack-inside : i < length packs
-      pack-inside = omega (arith, p.size)
+      -- what is kept at the place says the core
+      module _ (d : Kept) {f : Form} (same : f ≡ form_of n) where
+        abbrev k : Kept
+        k = get_or (take found.count found.kept) i d
 
-      -- they say the core
-      module _ {d : SpanCore} {circles : ℕ} (u : Unpacked (get_or packs i 0) (set_at memory i) d circles) {f : Form} (same : f ≡ form_of n) where
-        told : (d ≡ core) × (circles ≡ circle_count n ws core)
-        told =
-            let b = core-bytes p.lent p.reviewed least core core-in in
-            kept_at (circle_count n ws) cores packs memory s.done core after (p.in_packs ∙ ap (packs_of (circle_count n ws)) apart) (p.in_memory ∙ ap (λ (cs : List SpanCore). words_of (sets_of cs)) apart) (omega (arith, s.turn)) b.0 b.1 b.2 b.3 (rw s.turn at u)
+        told : (kept_core k ≡ core) × (k.circles ≡ circle_count n ws core)
+        told = kept_at (circle_count n ws) (take found.count found.kept) s.done core after (p.found.in_kept ∙ ap (map (with_circles (circle_count n ws))) apart) s.turn d
 
-        pub written-split : CoreToSplit n T ws least.members d circles f.set_bytes count buffer
+        pub written-split : CoreToSplit n T ws least.members (kept_core k) k.circles f.set_bytes count buffer
         unfolding circle_count record_count circle_records
         written-split = rw (same, told.0) (record {
-          span = core-span p.lent p.reviewed.named (stated p.lent p.reviewed least) core core-in;
-          named = core-inside p.lent p.reviewed.named (stated p.lent p.reviewed least) core core-in;
+          rising = here.rising;
+          inside = here.inside;
+          named = core-inside lent reviewed.named (stated lent reviewed least) core core-in;
           number = told.1;
-          many = (meets-of least core (core-meets p.lent p.reviewed least core core-in)).2;
+          many = (meets-of least core (core-meets lent reviewed least core core-in)).2;
           room = record { short = (marked n).most; room = omega (arith, room_for s.done (core ∷ after) apart, mul-le-mul_left (record_bytes n) few, s.appended.size) };
         })
           where
+            here : SpanOfDay n T ws core.first core.last
+            here = core-span lent reviewed.named (stated lent reviewed least) core core-in
+
             few : count + length (at_least least.members (circles_of n ws core)) ≤ length (kept least (circle_records n ws s.done)) + length (kept least (circle_records n ws (core ∷ after)))
             few = omega (
               arith,
               s.appended.number,
-              record-length p.lent p.reviewed least core core-in,
+              record-length lent reviewed least core core-in,
               ap length (kept_append least (records_of n ws core) (circle_records n ws after)),
               length-append (kept least (records_of n ws core)) (kept least (circle_records n ws after)),
             )
 
-        pub written-more : {count' first' last' : ℕ} {rows' buffer' : List ℕ} → AppendsCores f.group f.set_bytes 4 (large_records d least.members (circles_of n ws d)) count count' buffer buffer'
-            → RowsOf n T ws first' last' rows' → ReportSoFar n T ws base least (i + 1) count' first' last' rows' buffer₀ buffer'
+        pub written-more : {count' first' last' : ℕ} {rows' buffer' : List ℕ} → AppendsCores f.group f.set_bytes 4 (large_records (kept_core k) least.members (circles_of n ws (kept_core k))) count count' buffer buffer'
+            → rows' ≡ span_words n ws first' last' → ReportSoFar n T ws base least (i + 1) count' first' last' rows' buffer₀ buffer'
         unfolding circle_records
-        written-more {count'} {first'} {last'} {rows'} {buffer'} a r =
-            let b : AppendsCores (form_of n).group (form_of n).set_bytes 4 (kept least (records_of n ws core)) count count' buffer buffer' = rw (same, told.0, core-records p.lent p.reviewed least core core-in) at a in
-            let e : circle_records n ws (s.done ++ (core ∷ [])) ≡ circle_records n ws s.done ++ records_of n ws core = circle-records-append n ws s.done (core ∷ []) ∙ ap (λ (cs : List SpanCore). circle_records n ws s.done ++ cs) (append-nil (records_of n ws core)) in
+        written-more {count'} {first'} {last'} {rows'} {buffer'} a e =
+            let b : AppendsCores (form_of n).group (form_of n).set_bytes 4 (kept least (records_of n ws core)) count count' buffer buffer' = rw (same, told.0, core-records lent reviewed least core core-in) at a in
+            let both : circle_records n ws (s.done ++ (core ∷ [])) ≡ circle_records n ws s.done ++ records_of n ws core = circle-records-append n ws s.done (core ∷ []) ∙ ap (λ (cs : List SpanCore). circle_records n ws s.done ++ cs) (append-nil (records_of n ws core)) in
             record {
               done = s.done ++ (core ∷ []);
               left = after;
               all = apart ∙ sym (append_assoc s.done (core ∷ []) after);
               turn = omega (arith, s.turn, length-append s.done (core ∷ []));
-              appended = rw (e, kept_append least (circle_records n ws s.done) (records_of n ws core)) (appends-then s.appended b);
-              rows_of = r;
+              appended = rw (both, kept_append least (circle_records n ws s.done) (records_of n ws core)) (appends-then s.appended b);
+              rows_are = e;
             }
 
   -- the header
@@ -269,16 +236,16 @@ module _ {n T : ℕ} {ws : List ℕ} {base : ℕ} {least : Thresholds} {cores : 
       ap length start ∙ length-place 0 header given (omega (arith, header-four, p.room, report-length n T (shown_records n T ws base least)))
 
   -- the header and the end make it a report
-  pub written-end : {i count first last : ℕ} {rows buffer₀ buffer left : List ℕ} {f : Form} → f ≡ form_of n → ReportSoFar n T ws base least i count first last rows buffer₀ buffer → cores ≤ i
+  pub written-end : {i count first last : ℕ} {rows buffer₀ buffer left : List ℕ} {f : Form} → f ≡ form_of n → ReportSoFar n T ws base least i count first last rows buffer₀ buffer → found.count ≤ i
       → buffer₀ ≡ place 0 (f.report ++ (n ∷ T ∷ [])) given → length buffer₀ ≡ length given → left ≡ place (4 + core_bytes f.set_bytes * count) (encode (End count)) buffer → EncodesReport n T ws base least given left
   unfolding report_bytes
   written-end {i} {count} {buffer₀ = buffer₀} {buffer} {left} same s h e z f =
       let records = shown_records n T ws base least in
       let w = (form_of n).set_bytes in
       let r = record_bytes n in
-      let none : s.left ≡ [] = no_more s.left (omega (arith, p.number, s.turn, ap length s.all, length-append s.done s.left)) in
+      let none : s.left ≡ [] = no_more s.left (omega (arith, p.found.number, s.turn, ap length s.all, length-append s.done s.left)) in
       let whole : kept least (circle_records n ws s.done) ≡ records =
-      ap (λ (cs : List SpanCore). kept least (circle_records n ws cs)) (sym (s.all ∙ ap (λ (cs : List SpanCore). s.done ++ cs) none ∙ append-nil s.done)) ∙ cores-shown p.lent p.reviewed least in
+      ap (λ (cs : List SpanCore). kept least (circle_records n ws cs)) (sym (s.all ∙ ap (λ (cs : List SpanCore). s.done ++ cs) none ∙ append-nil s.done)) ∙ cores-shown lent reviewed least in
       let a : AppendsCores (form_of n).group w 4 records 0 count buffer₀ buffer = rw whole at s.appended in
       let start : buffer₀ ≡ place 0 header given = rw same at e in
       let end : left ≡ place (4 + r * count) (encode (End count)) buffer = rw same at f in

@@ -6,14 +6,14 @@ use Prim.Native.Nat.{ℕ, suc, ◌+◌, ◌*◌, ◌≤◌, ◌<◌}
 use native.Mathlib.Numerals.{add-one}
 use native.Mathlib.Decide.{dec_lt}
 use native.Mathlib.Omega.{arith}
-use lib.ListN.{length, get_or, set, length-set, replicate}
+use lib.ListN.{length, set, length-set, replicate}
 use lib.Seq.{get_or-set_same, get_or-set_other}
-use Rattle.sets.specs.Words.{set_words}
 use Rattle.records.specs.Limits.{max_ticks}
 use Rattle.records.proofs.WithinLimits.{limits_of}
 use Rattle.days.specs.Days.{LentDay}
 use Rattle.cuts.specs.Sums.{table_score}
-use Rattle.groups.specs.Lines.{ScoresBefore, LineFound}
+use Rattle.groups.specs.declared.lines.Found.{Found}
+use Rattle.groups.specs.Lines.{none, at, ScoresBefore, LineFound}
 use Rattle.groups.specs.Scoring.{LinePlaces, LinePut, Scores}
 use Rattle.groups.proofs.LineLaws.{scores-none, scores-more}
 
@@ -28,31 +28,28 @@ module _ (scores : List ℕ) (first last value : ℕ) where
   score-other f l d = get_or-set_other scores (first * 96 + last) (f * 96 + l) value 0 d
 
 -- The loop over the last ticks of the runs that start with a tick, at tick last: those that end before it are in the table.
-pub putting-start : {T first : ℕ} {orders scores : List ℕ} → LinePlaces T first orders scores → LinePut first first orders scores scores
+pub putting-start : {T first : ℕ} {line : List Found} {scores : List ℕ} → LinePlaces T first scores → LinePut first first line scores scores
 putting-start p = record { size = p.scores_size; here = λ i l r. absurd (omega arith); before = λ f l r q. refl }
 
-module _ {T first : ℕ} {orders scores : List ℕ} (p : LinePlaces T first orders scores) {last : ℕ} {scores' : List ℕ} (h : LinePut last first orders scores scores')
+module _ {T first : ℕ} {line : List Found} {scores : List ℕ} (p : LinePlaces T first scores) {last : ℕ} {scores' : List ℕ} (h : LinePut last first line scores scores')
     (m : first ≤ last) (k : last < T) where
   -- the place of the next score is in the table
   pub place_inside : first * 96 + last < length scores'
   place_inside = omega (arith, p.short, p.inside, h.size)
 
-  pub putting-next : LinePut (last + 1) first orders scores (set scores' (first * 96 + last) (get_or orders last 0))
+  pub putting-next : LinePut (last + 1) first line scores (set scores' (first * 96 + last) (at line last).order)
   putting-next = record {
-    size = length-set scores' (first * 96 + last) (get_or orders last 0) ∙ h.size;
+    size = length-set scores' (first * 96 + last) (at line last).order ∙ h.size;
     here = λ i l q. by_cases (dec_lt i last)
-        (λ w. score-other scores' first last (get_or orders last 0) first i (λ v. omega arith) ∙ h.here i l w)
-        (λ w. let e : i ≡ last = omega arith in rw e (score-here scores' first last (get_or orders last 0) place_inside));
-    before = λ f l r q. score-other scores' first last (get_or orders last 0) f l (λ v. omega (arith, p.short)) ∙ h.before f l r q;
+        (λ w. score-other scores' first last (at line last).order first i (λ v. omega arith) ∙ h.here i l w)
+        (λ w. let e : i ≡ last = omega arith in rw e (score-here scores' first last (at line last).order place_inside));
+    before = λ f l r q. score-other scores' first last (at line last).order f l (λ v. omega (arith, p.short)) ∙ h.before f l r q;
   }
 
 -- The loop over the first ticks, at tick first: the runs that start before it are in the table, and the scores of those that start one tick
 -- before it are at hand.
-pub record ScoredBefore (n T : ℕ) (ws : List ℕ) (base query first : ℕ) (orders members circles large scores : List ℕ) : Type 0 where
-  pub members_size : length members ≡ max_ticks * set_words
-  pub circles_size : length circles ≡ max_ticks
-  pub large_size : length large ≡ max_ticks
-  pub before : ScoresBefore n T ws base query first orders
+pub record ScoredBefore (n T : ℕ) (ws : List ℕ) (base query first : ℕ) (line : List Found) (scores : List ℕ) : Type 0 where
+  pub before : ScoresBefore n T ws base query first line
   pub found : Scores n T ws base query first scores
 
 module _ {n T : ℕ} {ws : List ℕ} (d : LentDay n T ws) where
@@ -60,27 +57,17 @@ module _ {n T : ℕ} {ws : List ℕ} (d : LentDay n T ws) where
   short = (limits_of d.limits).short
 
   -- before the first tick
-  pub scored-none : (base query : ℕ) {scores : List ℕ} → length scores ≡ max_ticks * max_ticks
-      → ScoredBefore n T ws base query 0 (replicate (suc max_ticks) 0) (replicate (max_ticks * set_words) 0) (replicate max_ticks 0) (replicate max_ticks 0) scores
-  scored-none base query e = record {
-    members_size = refl;
-    circles_size = refl;
-    large_size = refl;
-    before = scores-none n T ws base query short;
-    found = record { size = e; score = λ first last l m r. absurd (omega arith) };
-  }
+  pub scored-none : (base query : ℕ) {scores : List ℕ} → length scores ≡ max_ticks * max_ticks → ScoredBefore n T ws base query 0 (replicate (suc max_ticks) none) scores
+  scored-none base query e = record { before = scores-none n T ws base query short; found = record { size = e; score = λ first last l m r. absurd (omega arith) } }
 
   -- a turn: the scores of the runs that start with tick first are found, and put into the table
-  module _ {base query first enough : ℕ} {orders members circles large scores : List ℕ} (b : ScoredBefore n T ws base query first orders members circles large scores) (k : first < T)
-      {orders' members' circles' large' : List ℕ} (f : LineFound n T ws base query first enough orders orders' members' circles' large') where
-    pub scored-places : LinePlaces T first orders' scores
-    scored-places = record { short = short; inside = k; orders_size = omega (arith, f.orders_size, b.before.size, short); scores_size = b.found.size }
+  module _ {base query first enough : ℕ} {line : List Found} {scores : List ℕ} (b : ScoredBefore n T ws base query first line scores) (k : first < T) {line' : List Found}
+      (f : LineFound n T ws base query first enough line line') where
+    pub scored-places : LinePlaces T first scores
+    scored-places = record { short = short; inside = k; scores_size = b.found.size }
 
-    pub scored-more : {scores' : List ℕ} → LinePut T first orders' scores scores' → ScoredBefore n T ws base query (first + 1) orders' members' circles' large' scores'
+    pub scored-more : {scores' : List ℕ} → LinePut T first line' scores scores' → ScoredBefore n T ws base query (first + 1) line' scores'
     scored-more p = rw add-one (record {
-      members_size = f.members_size;
-      circles_size = f.circles_size;
-      large_size = f.large_size;
       before = scores-more b.before f;
       found = record {
         size = p.size;
@@ -91,6 +78,5 @@ module _ {n T : ℕ} {ws : List ℕ} (d : LentDay n T ws) where
     })
 
 -- after the last tick
-pub scored-all : {n T : ℕ} {ws : List ℕ} {base query first : ℕ} {orders members circles large scores : List ℕ} → ScoredBefore n T ws base query first orders members circles large scores → T ≤ first
-    → Scores n T ws base query T scores
+pub scored-all : {n T : ℕ} {ws : List ℕ} {base query first : ℕ} {line : List Found} {scores : List ℕ} → ScoredBefore n T ws base query first line scores → T ≤ first → Scores n T ws base query T scores
 scored-all b k = record { size = b.found.size; score = λ f l p q r. b.found.score f l (omega arith) q r }

@@ -1,31 +1,20 @@
 -- What the functions that put records into memory promise.
-use Rattle.std.specs.Prelude.{List, ◌++◌, map, ◌≡◌, ℕ, ◌+◌, ◌*◌, ◌≤◌, length, take, drop}
+use Rattle.std.specs.Prelude.{List, ◌++◌, map, ◌≡◌, ℕ, ◌+◌, ◌*◌, ◌≤◌, ◌<◌, length, take, drop}
 use Rattle.sets.specs.Sets.{Sub, full, size}
-use Rattle.sets.specs.Members.{members}
-use Rattle.sets.specs.Words.{set_words, words_of}
 use Rattle.records.specs.Outcomes.{Outcome, success}
-use Rattle.days.specs.Days.{LentDay}
 use Rattle.logs.specs.Buffers.{deliver}
 use Rattle.circles.specs.Circles.{at_least}
 use Rattle.thresholds.specs.declared.Thresholds.{Thresholds}
-use Rattle.spans.specs.Spans.{SpanOfDay, span_words}
-use Rattle.spans.specs.Reviews.{Review}
 use Rattle.spans.specs.SpanCores.{SpanCore}
-use Rattle.spans.specs.Reports.{groups_of}
-use Rattle.spans.specs.KeptGroups.{kept}
 use Rattle.spans.specs.CircleRecords.{with_members, circles_of, shown_records}
-use Rattle.spans.specs.Encoding.{Form as StatedForm, max_cores, core_bytes, encode_cores, report_bytes}
+use Rattle.spans.specs.Encoding.{Form as StatedForm, core_bytes, encode_cores, report_bytes}
 use Rattle.groups.specs.declared.form.Form.{Form}
-use Rattle.groups.specs.declared.encoding.Shown.{Shown}
-use Rattle.groups.specs.Keeping.{packs_of, sets_of, circle_count}
+use Rattle.groups.specs.declared.kept.Cores.{Cores}
+use Rattle.groups.specs.Keeping.{FindsCores}
 
 -- what a form of the program is
 abbrev pub form_in : Form → StatedForm
 form_in f = record { report = f.report; group = f.group; plan = f.plan; part = f.part; set_bytes = f.width }
-
--- what a record of the program shows
-abbrev pub core_of : Shown → SpanCore
-core_of r = record { order = r.order; first = r.first; last = r.last; members = members r.members }
 
 -- Records with a mark and a set of w bytes are appended to so many that stand after a header of so many bytes. The bytes after them are as they were.
 pub record AppendsCores (mark : List ℕ) (w header : ℕ) (cores : List SpanCore) (count count' : ℕ) (buffer buffer' : List ℕ) : Type 0 where
@@ -43,15 +32,11 @@ pub record CircleRoom (w count enough : ℕ) (ss : List ℕ) (buffer : List ℕ)
   pub short : w ≤ 16
   pub room : 4 + core_bytes w * (count + length (at_least enough ss)) ≤ length buffer
 
--- rows that are those of a span of a day
-pub record RowsOf (n T : ℕ) (ws : List ℕ) (first last : ℕ) (rows : List ℕ) : Type 0 where
-  pub span : SpanOfDay n T ws first last
-  pub are : rows ≡ span_words n ws first last
-
 -- A core that is to be split: it is one of a span of the day, as many circles as are said are its circles, and it has members enough itself. The records
 -- of its circles, with sets of w bytes, have room.
 pub record CoreToSplit (n T : ℕ) (ws : List ℕ) (enough : ℕ) (c : SpanCore) (circles w count : ℕ) (buffer : List ℕ) : Type 0 where
-  pub span : SpanOfDay n T ws c.first c.last
+  pub rising : c.first ≤ c.last
+  pub inside : c.last < T
   pub named : Sub c.members (full n)
   pub number : circles ≡ length (circles_of n ws c)
   pub many : enough ≤ size c.members
@@ -61,16 +46,9 @@ pub record CoreToSplit (n T : ℕ) (ws : List ℕ) (enough : ℕ) (c : SpanCore)
 abbrev pub shown_bytes : ℕ → ℕ → List ℕ → ℕ → Thresholds → List ℕ
 shown_bytes n T ws base least = report_bytes n T (shown_records n T ws base least)
 
--- What a report is written from: a lent day, the badges under review, and memory in which the cores that meet the thresholds are kept; and a buffer that
--- holds it.
-pub record ReportCores (n T : ℕ) (ws : List ℕ) (base : ℕ) (least : Thresholds) (count : ℕ) (packs memory buffer : List ℕ) : Type 0 where
-  pub lent : LentDay n T ws
-  pub reviewed : Review n base
-  pub number : count ≡ length (kept least (groups_of n T ws base))
-  pub in_packs : take count packs ≡ packs_of (circle_count n ws) (kept least (groups_of n T ws base))
-  pub in_memory : take (count * set_words) memory ≡ words_of (sets_of (kept least (groups_of n T ws base)))
-  pub few : count ≤ max_cores
-  pub size : count ≤ length packs
+-- what a report is written from: the cores that meet the thresholds, and a buffer that holds it
+pub record ReportCores (n T : ℕ) (ws : List ℕ) (base : ℕ) (least : Thresholds) (cores : Cores) (buffer : List ℕ) : Type 0 where
+  pub found : FindsCores n T ws base least cores
   pub room : length (shown_bytes n T ws base least) ≤ length buffer
 
 -- A day's report is laid over the first bytes of a buffer, and the bytes after it are as they were.

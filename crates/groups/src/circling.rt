@@ -3,7 +3,8 @@ ghost use Rattle.std.specs.Prelude.{◌∷◌, []};
 ghost use Rattle.sets.specs.Members.{members};
 ghost use Rattle.cores.specs.Rows.{graph};
 ghost use Rattle.circles.specs.Circles.{circles};
-ghost use Rattle.groups.specs.Appending.{core_of, AppendsCores, large_records, CircleRoom};
+ghost use Rattle.groups.specs.Appending.{AppendsCores, large_records, CircleRoom};
+ghost use Rattle.groups.specs.Keeping.{core_of};
 
 use crate::encoding::{Shown, append_record};
 use crate::form::Form;

@@ -3,7 +3,8 @@ ghost use Rattle.std.specs.Prelude.{◌≡◌, ◌∷◌, [], ◌+◌, ◌*◌, 
 ghost use Rattle.sets.specs.Bytes.{little_endian};
 ghost use Rattle.logs.specs.Buffers.{place};
 ghost use Rattle.spans.specs.Encoding.{core_bytes, encode_core};
-ghost use Rattle.groups.specs.Appending.{core_of, AppendsCores};
+ghost use Rattle.groups.specs.Appending.{AppendsCores};
+ghost use Rattle.groups.specs.Keeping.{core_of};
 
 use logs::put;
 use sets::BadgeSet;

@@ -11,6 +11,7 @@ mod day;
 mod encoding;
 mod form;
 mod keeping;
+mod kept;
 mod lines;
 mod numbers;
 mod planning;

@@ -35,11 +35,12 @@ fn number_span(
         return Err(Refusal::InvalidSpan);
     }
     let day = Day {
+        words,
         badges,
         ticks,
         review,
     };
-    let rows = span_rows(words, day, Span { first, last });
+    let rows = span_rows(&day, Span { first, last });
     let numbers = cores::core_numbers(rows, review);
     Ok(logs::deliver(&numbers[..badges], buffer)?)
 }

@@ -3,7 +3,6 @@ ghost use Rattle.std.specs.Prelude.{◌≡◌, ◌∷◌, [], ◌+◌, ◌*◌, 
 ghost use Rattle.sets.specs.Members.{members};
 ghost use Rattle.days.specs.Days.{LentDay};
 ghost use Rattle.logs.specs.Buffers.{deliver};
-ghost use Rattle.spans.specs.Spans.{SpanOfDay};
 ghost use Rattle.spans.specs.Reviews.{Review};
 ghost use Rattle.spans.specs.Plans.{score_on, members_on, part_on};
 ghost use Rattle.spans.specs.Encoding.{core_bytes};
@@ -22,27 +21,27 @@ use crate::reviewing::judge_review;
 use crate::rows::span_rows;
 use crate::scoring::fill_scores;
 use logs::{Record, put_record};
-use sets::{BadgeSet, widen};
+use records::MAX_TICKS;
+use sets::BadgeSet;
 
 // The members shown of a part of a score: those of the core of this order, which contains the query, and at score 0 all badges under review. The order
 // is known, so no other is tried.
-fn part_members(words: &[u64], day: Day, query: BadgeSet, span: Span, score: u8) -> BadgeSet
-    requires { SpanOfDay day.badges day.ticks words.now span.first span.last × Review day.badges (members day.review) × (score ≡ score_on day.badges words.now (members day.review) (members query) span.first span.last) }
-    ensures { members result ≡ members_on day.badges words.now (members day.review) score span.first span.last }
+fn part_members(day: &Day, query: BadgeSet, span: Span, score: u8) -> BadgeSet
+    requires { (span.last < day.now.ticks) × (score ≡ score_on day.now.badges day.now.words.now (members day.now.review) (members query) span.first span.last) }
+    ensures { members result ≡ members_on day.now.badges day.now.words.now (members day.now.review) score span.first span.last }
 {
     let review = day.review;
     if score == 0 {
         return review;
     }
-    let rows = span_rows(words, day, span);
+    let rows = span_rows(day, span);
     let core = innermost::highest(&rows, review, query, score - 1, score);
     core.members
 }
 
 // Appends the part of a run, whose score is known, and answers how many there are then.
 fn append_part(
-    words: &[u64],
-    day: Day,
+    day: &Day,
     query: BadgeSet,
     span: Span,
     score: u8,
@@ -50,14 +49,14 @@ fn append_part(
     buffer: &mut [u8],
     count: usize,
 ) -> usize
-    requires { SpanOfDay day.badges day.ticks words.now span.first span.last × Review day.badges (members day.review) × (score ≡ score_on day.badges words.now (members day.review) (members query) span.first span.last) × (form.width ≤ 16) × (core_bytes form.width + core_bytes form.width * count + core_bytes form.width ≤ length buffer.old) }
-    ensures { AppendsCores form.part form.width (core_bytes form.width) (part_on day.badges words.now (members day.review) (members query) span.first span.last ∷ []) count result buffer.old buffer.new }
+    requires { (span.last < day.now.ticks) × (score ≡ score_on day.now.badges day.now.words.now (members day.now.review) (members query) span.first span.last) × (form.width ≤ 16) × (core_bytes form.width + core_bytes form.width * count + core_bytes form.width ≤ length buffer.old) }
+    ensures { AppendsCores form.part form.width (core_bytes form.width) (part_on day.now.badges day.now.words.now (members day.now.review) (members query) span.first span.last ∷ []) count result buffer.old buffer.new }
 {
     let part = Shown {
         order: score,
         first: span.first as u8,
         last: span.last as u8,
-        members: part_members(words, day, query, span, score),
+        members: part_members(day, query, span, score),
     };
     let mark = form.part;
     append_record(buffer, 5 + form.width, count, mark, form.width, part)
@@ -65,16 +64,15 @@ fn append_part(
 
 // Encodes the plan of a day, cut at the given ends, in a buffer that holds it. The scores are those of all runs.
 fn encode_plan(
-    words: &[u64],
-    day: Day,
+    day: &Day,
     query: BadgeSet,
     parts: usize,
-    ends: &[u8; 96],
-    scores: &[u8; 9216],
+    ends: &[u8; MAX_TICKS],
+    scores: &[u8; MAX_TICKS * MAX_TICKS],
     buffer: &mut [u8],
 )
-    requires { PlanParts day.badges day.ticks words.now (members day.review) (members query) parts ends.now scores.now buffer.old }
-    ensures { EncodesPlan day.badges day.ticks words.now (members day.review) (members query) parts ends.now buffer.old buffer.new }
+    requires { PlanParts day.now.badges day.now.ticks day.now.words.now (members day.now.review) (members query) parts ends.now scores.now buffer.old }
+    ensures { EncodesPlan day.now.badges day.now.ticks day.now.words.now (members day.now.review) (members query) parts ends.now buffer.old buffer.new }
 {
     let header = Shown {
         order: day.badges as u8,
@@ -89,18 +87,9 @@ fn encode_plan(
     let mut first: usize = 0;
     let mut count: usize = 0;
     for i in 0..parts {
-        let last = widen(ends[i]);
-        let score = scores[first * 96 + last];
-        let appended = append_part(
-            words,
-            day,
-            query,
-            Span { first, last },
-            score,
-            form,
-            buffer,
-            count,
-        );
+        let last = usize::from(ends[i]);
+        let score = scores[first * MAX_TICKS + last];
+        let appended = append_part(day, query, Span { first, last }, score, form, buffer, count);
         count = appended;
         first = last + 1;
     }
@@ -145,15 +134,16 @@ fn plan_day(
     if buffer.len() < size {
         return Err(Refusal::Log(logs::Refusal::BufferTooShort));
     }
-    let mut scores = [0u8; 9216];
+    let mut scores = [0u8; MAX_TICKS * MAX_TICKS];
     let day = Day {
+        words,
         badges,
         ticks,
         review,
     };
-    fill_scores(words, day, query, &mut scores);
+    fill_scores(&day, query, &mut scores);
     let ends = cuts::best_ends(&scores, ticks, parts);
-    encode_plan(words, day, query, parts, &ends, &scores, buffer);
+    encode_plan(&day, query, parts, &ends, &scores, buffer);
     Ok(size)
 }
 

@@ -13,32 +13,26 @@ ghost use Rattle.groups.specs.GroupReports.{Reported};
 use crate::day::Day;
 use crate::form::set_bytes;
 use crate::keeping::find_cores;
+use crate::kept::Cores;
 use crate::refusal::Refusal;
 use crate::reviewing::judge_review;
 use crate::writing::write_report;
-use sets::{BadgeSet, SET_WORDS};
+use sets::BadgeSet;
 use thresholds::Thresholds;
 
 // Puts a report into the buffer that is lent: judged by 9. The cores are found and kept, and the records of their circles counted, before the buffer is
-// touched; then the records are written straight into it. There is room for a pack and a set for a core on each of 4,656 spans. What they hold first does not
-// matter: ones are put there by wide stores, where zeros would be by a call that counts a step for each byte.
-fn report_groups(
-    words: &[u64],
-    day: Day,
-    least: Thresholds,
-    buffer: &mut [u8],
-) -> Result<usize, Refusal>
-    requires { LentDay day.badges day.ticks words.now × Review day.badges (members day.review) × (1 ≤ least.members) }
-    ensures { DeliversReport day.badges day.ticks words.now (members day.review) least (written_outcome result) buffer.old buffer.new }
+// touched; then the records are written straight into it.
+fn report_groups(day: &Day, least: Thresholds, buffer: &mut [u8]) -> Result<usize, Refusal>
+    requires { 1 ≤ least.members }
+    ensures { DeliversReport day.now.badges day.now.ticks day.now.words.now (members day.now.review) least (written_outcome result) buffer.old buffer.new }
 {
-    let mut packs = [1u32; 4656];
-    let mut memory = [1u64; 4656 * SET_WORDS];
-    let tally = find_cores(words, day, least, &mut packs, &mut memory);
-    let size = 10 + (5 + set_bytes(day.badges)) * tally.records;
+    let mut cores = Cores::new();
+    find_cores(day, least, &mut cores);
+    let size = 10 + (5 + set_bytes(day.badges)) * cores.records();
     if buffer.len() < size {
         return Err(Refusal::Log(logs::Refusal::BufferTooShort));
     }
-    write_report(words, day, least, &packs, &memory, tally.cores, buffer);
+    write_report(day, least, &cores, buffer);
     Ok(size)
 }
 
@@ -59,11 +53,12 @@ fn report_day(
         return Err(Refusal::ThresholdOutOfRange);
     }
     let day = Day {
+        words,
         badges,
         ticks,
         review,
     };
-    report_groups(words, day, least, buffer)
+    report_groups(&day, least, buffer)
 }
 
 // Puts the report of a day's groups, among the badges under review, into the buffer that is lent, a record for each circle of a maximal core that meets

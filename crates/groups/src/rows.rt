@@ -1,6 +1,6 @@
 // The rows of a span: for each badge, those in contact with it in every tick.
-ghost use Rattle.std.specs.Prelude.{◌≡◌, ◌+◌, ◌*◌, ◌≤◌};
-ghost use Rattle.spans.specs.Spans.{span_words, SpanOfDay};
+ghost use Rattle.std.specs.Prelude.{◌≡◌, ◌+◌, ◌*◌, ◌≤◌, ◌<◌};
+ghost use Rattle.spans.specs.Spans.{span_words};
 ghost use Rattle.groups.specs.Steps.{NextTick, Narrows, SideOf, NarrowsSide, RowsTo, EmptyFrom};
 
 use crate::day::{Day, Span};
@@ -64,58 +64,46 @@ pub(crate) fn narrow(rows: &mut [u64], tick: &[u64])
     }
 }
 
-// Narrows the rows of the span from tick first to an earlier tick, tick by tick, to those of the span from tick first to tick last.
-pub(crate) fn narrow_to(
-    rows: &mut [u64],
-    words: &[u64],
-    day: Day,
-    first: usize,
-    reached: usize,
-    last: usize,
-)
-    requires { SpanOfDay day.badges day.ticks words.now first last × RowsTo day.badges words.now first last rows.old reached }
-    ensures { rows.new ≡ span_words day.badges words.now first last }
+// Narrows the rows of the span from a span's first tick to an earlier tick, tick by tick, to those of the whole span.
+pub(crate) fn narrow_to(rows: &mut [u64], day: &Day, reached: usize, span: Span)
+    requires { (span.last < day.now.ticks) × RowsTo day.now.badges day.now.words.now span.first span.last rows.old reached }
+    ensures { rows.new ≡ span_words day.now.badges day.now.words.now span.first span.last }
 {
-    let size = day.badges * SET_WORDS;
-    let mut at = reached * size;
-    for _ in reached..last {
-        at += size;
-        narrow(rows, &words[at..at + size]);
+    for t in reached..span.last {
+        narrow(rows, day.tick(t + 1));
     }
 }
 
 // Puts the rows of the span of one tick into an array whose rows from n up are empty.
-pub(crate) fn first_rows(rows: &mut [u64; ROW_WORDS], words: &[u64], day: Day, first: usize)
-    requires { SpanOfDay day.badges day.ticks words.now first first × EmptyFrom day.badges rows.old }
-    ensures { rows.new ≡ span_words day.badges words.now first first }
+pub(crate) fn first_rows(rows: &mut [u64; ROW_WORDS], day: &Day, first: usize)
+    requires { (first < day.now.ticks) × EmptyFrom day.now.badges rows.old }
+    ensures { rows.new ≡ span_words day.now.badges day.now.words.now first first }
 {
-    let size = day.badges * SET_WORDS;
-    let at = first * size;
-    copy_tick(rows, &words[at..at + size]);
+    copy_tick(rows, day.tick(first));
 }
 
 // Turns the rows of one span into those of another: where that is longer at its end alone, they are narrowed further.
-pub(crate) fn follow(rows: &mut [u64; ROW_WORDS], words: &[u64], day: Day, at: Span, to: Span)
-    requires { SpanOfDay day.badges day.ticks words.now to.first to.last × (at.first ≤ at.last) × (rows.old ≡ span_words day.badges words.now at.first at.last) }
-    ensures { rows.new ≡ span_words day.badges words.now to.first to.last }
+pub(crate) fn follow(rows: &mut [u64; ROW_WORDS], day: &Day, at: Span, to: Span)
+    requires { (to.last < day.now.ticks) × (rows.old ≡ span_words day.now.badges day.now.words.now at.first at.last) }
+    ensures { rows.new ≡ span_words day.now.badges day.now.words.now to.first to.last }
 {
     if at.first == to.first {
         if at.last <= to.last {
-            narrow_to(&mut rows[..], words, day, to.first, at.last, to.last);
+            narrow_to(&mut rows[..], day, at.last, to);
             return;
         }
     }
-    first_rows(rows, words, day, to.first);
-    narrow_to(&mut rows[..], words, day, to.first, to.first, to.last);
+    first_rows(rows, day, to.first);
+    narrow_to(&mut rows[..], day, to.first, to);
 }
 
 // The rows of a span: those of its first tick, narrowed by the others.
-pub(crate) fn span_rows(words: &[u64], day: Day, span: Span) -> [u64; ROW_WORDS]
-    requires { SpanOfDay day.badges day.ticks words.now span.first span.last }
-    ensures { result ≡ span_words day.badges words.now span.first span.last }
+pub(crate) fn span_rows(day: &Day, span: Span) -> [u64; ROW_WORDS]
+    requires { span.last < day.now.ticks }
+    ensures { result ≡ span_words day.now.badges day.now.words.now span.first span.last }
 {
     let mut rows = [0u64; ROW_WORDS];
-    first_rows(&mut rows, words, day, span.first);
-    narrow_to(&mut rows, words, day, span.first, span.first, span.last);
+    first_rows(&mut rows, day, span.first);
+    narrow_to(&mut rows, day, span.first, span);
     rows
 }

@@ -2,46 +2,32 @@
 ghost use Rattle.std.specs.Prelude.{◌≡◌, ◌*◌, length};
 ghost use Rattle.sets.specs.Members.{members};
 ghost use Rattle.records.specs.Limits.{max_ticks};
-ghost use Rattle.days.specs.Days.{LentDay};
-ghost use Rattle.spans.specs.Reviews.{Review};
 ghost use Rattle.groups.specs.Scoring.{LinePlaces, LinePut, Scores};
 
 use crate::day::Day;
-use crate::lines::find_line;
-use sets::{BadgeSet, SET_WORDS};
+use crate::lines::{Found, LINE, find_line};
+use records::MAX_TICKS;
+use sets::BadgeSet;
 
 // Puts the scores of the runs that start with a tick into its row of a table.
-fn put_line(orders: &[u8], first: usize, ticks: usize, scores: &mut [u8])
-    requires { LinePlaces ticks first orders.now scores.old }
-    ensures { LinePut ticks first orders.now scores.old scores.new }
+fn put_line(line: &[Found; LINE], first: usize, ticks: usize, scores: &mut [u8])
+    requires { LinePlaces ticks first scores.old }
+    ensures { LinePut ticks first line.now scores.old scores.new }
 {
     for last in first..ticks {
-        scores[first * 96 + last] = orders[last];
+        scores[first * MAX_TICKS + last] = line[last].order;
     }
 }
 
 // Fills a table with the score of every run of a day: a row for each first tick, a column for each last tick. A plan's cores are not split, so no circle
 // is counted.
-pub(crate) fn fill_scores(words: &[u64], day: Day, query: BadgeSet, scores: &mut [u8])
-    requires { LentDay day.badges day.ticks words.now × Review day.badges (members day.review) × (length scores.old ≡ max_ticks * max_ticks) }
-    ensures { Scores day.badges day.ticks words.now (members day.review) (members query) day.ticks scores.new }
+pub(crate) fn fill_scores(day: &Day, query: BadgeSet, scores: &mut [u8])
+    requires { length scores.old ≡ max_ticks * max_ticks }
+    ensures { Scores day.now.badges day.now.ticks day.now.words.now (members day.now.review) (members query) day.now.ticks scores.new }
 {
-    let mut orders = [0u8; 97];
-    let mut members = [0u64; 96 * SET_WORDS];
-    let mut circles = [0u8; 96];
-    let mut large = [0u8; 96];
+    let mut line = [Found::NONE; LINE];
     for first in 0..day.ticks {
-        find_line(
-            words,
-            day,
-            first,
-            query,
-            0,
-            &mut orders,
-            &mut members,
-            &mut circles,
-            &mut large,
-        );
-        put_line(&orders, first, day.ticks, scores);
+        find_line(day, first, query, 0, &mut line);
+        put_line(&line, first, day.ticks, scores);
     }
 }

@@ -3,7 +3,7 @@ use Prim.Native.Nat.{◌≤◌, ◌<◌}
 use Rattle.sets.specs.Sets.{size}
 use Rattle.sets.specs.Members.{members}
 use Rattle.circles.proofs.Counting.{one-counted}
-use Rattle.groups.specs.Appending.{core_of}
+use Rattle.groups.specs.Keeping.{core_of}
 use Rattle.groups.proofs.Appended.{appends-none}
 use Rattle.groups.proofs.CircleLoop.{circle-room, large-one, large-none}
 use Rattle.groups.proofs.circling.append_circle.Goals as goal

@@ -8,7 +8,7 @@ use Rattle.sets.specs.Members.{capacity, members}
 use Rattle.sets.proofs.Pairs.{members-lt}
 use Rattle.sets.proofs.Walks.{none-unseen}
 use Rattle.circles.proofs.Counting.{some_left}
-use Rattle.groups.specs.Appending.{core_of}
+use Rattle.groups.specs.Keeping.{core_of}
 use Rattle.groups.proofs.CircleLoop.{write-start, write-room, write-more, write-less, write-end}
 use Rattle.groups.proofs.circling.append_circles.Goals as goal
 use Rattle.groups.proofs.circling.append_circles.Goals.{After-append_circle-appended, After-circle_of-circle, At-loop-form, In-loop-form, Start}

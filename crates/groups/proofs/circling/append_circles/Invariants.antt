@@ -3,7 +3,7 @@
 use Rattle.sets.specs.Sets.{size}
 use Rattle.sets.specs.Members.{members}
 use Rattle.cores.specs.Rows.{graph}
-use Rattle.groups.specs.Appending.{core_of}
+use Rattle.groups.specs.Keeping.{core_of}
 use Rattle.groups.proofs.CircleLoop.{Writes}
 use Rattle.groups.proofs.circling.append_circles.Given as goal
 

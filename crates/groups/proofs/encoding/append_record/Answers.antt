@@ -2,7 +2,7 @@
 use mathlib.Core.Path.{◌≡◌}
 use lib.ListN.{length}
 use borrow.Author.Rules.{rules}
-use Rattle.groups.specs.Appending.{core_of}
+use Rattle.groups.specs.Keeping.{core_of}
 use Rattle.groups.proofs.Appended.{appends-one}
 use Rattle.groups.proofs.encoding.append_record.Goals as goal
 use Rattle.groups.proofs.encoding.append_record.Goals.{After-put_core, Start}

@@ -8,7 +8,7 @@ use borrow.Author.Rules.{rules}
 use Rattle.logs.specs.Buffers.{place}
 use Rattle.spans.specs.Encoding.{core_bytes}
 use Rattle.spans.proofs.Encoding.{encode-core-take}
-use Rattle.groups.specs.Appending.{core_of}
+use Rattle.groups.specs.Keeping.{core_of}
 use Rattle.groups.proofs.encoding.put_core.Goals as goal
 use Rattle.groups.proofs.encoding.put_core.Goals.{After-put}
 

@@ -4,7 +4,7 @@ use borrow.Author.Rules.{rules}
 use Rattle.sets.specs.Bytes.{little_endian}
 use Rattle.sets.specs.Members.{members}
 use Rattle.sets.proofs.Pairs.{two-parts}
-use Rattle.groups.specs.Appending.{core_of}
+use Rattle.groups.specs.Keeping.{core_of}
 use Rattle.groups.proofs.Appended.{wide-record}
 use Rattle.groups.proofs.encoding.record_bytes.Goals as goal
 use Rattle.groups.proofs.encoding.record_bytes.Goals.{After-word-2, After-word_bytes-lower}

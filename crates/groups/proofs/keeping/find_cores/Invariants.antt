@@ -5,4 +5,4 @@ use Rattle.groups.proofs.keeping.find_cores.Given as goal
 
 abbrev pub invariant-loop-first : goal.invariant-loop-first
 invariant-loop-first l =
-    CoresSoFar l.day.badges l.day.ticks l.words (members l.day.review) l.least l.first l.tally.cores l.tally.records l.initial.packs l.packs l.initial.memory l.memory l.orders l.members l.circles l.large
+    CoresSoFar l.day.badges l.day.ticks l.day.words.now (members l.day.review) l.least l.first l.initial.cores l.cores l.line

@@ -1,7 +1,7 @@
--- `keep_core` meets its contract: with no members, or thresholds that are not met, nothing is kept; else the core is, by its pack and its members.
+-- `keep_core` meets its contract: with no members, or thresholds that are not met, nothing is kept; else the core is.
 use mathlib.Core.Path.{◌≡◌, sym, ap₂, ◌∙◌}
 use mathlib.Core.Bool.{true}
-use mathlib.Core.List.{List, [], ◌∷◌}
+use mathlib.Core.List.{[], ◌∷◌}
 use Prim.Native.Nat.{ℕ, ◌+◌, ◌<◌}
 use native.Mathlib.Omega.{arith}
 use lib.Dec.{ltb}
@@ -18,16 +18,16 @@ use Rattle.spans.specs.SpanCores.{SpanCore}
 use Rattle.thresholds.specs.Ranges.{are_enough}
 use Rattle.spans.specs.KeptGroups.{meets, kept}
 use Rattle.spans.proofs.KeptRecords.{kept-one}
-use Rattle.groups.specs.Appending.{core_of}
-use Rattle.groups.specs.Keeping.{KeepsCores}
-use Rattle.groups.proofs.KeptMemory.{keeps-none, keeps-one}
+use Rattle.groups.specs.declared.kept.Cores.{Cores}
+use Rattle.groups.specs.Keeping.{kept_core, KeepsCores}
+use Rattle.groups.proofs.KeptCores.{keeps-none}
 use Rattle.groups.proofs.keeping.keep_core.Goals as goal
-use Rattle.groups.proofs.keeping.keep_core.Goals.{After-met_by, After-pack, After-put_set, After-widen-3, Else-is_empty, Else-not-met_by}
+use Rattle.groups.proofs.keeping.keep_core.Goals.{After-met_by}
 
 -- nothing is kept where a test fails
-nothing : (least : Thresholds) (core : SpanCore) (circles large count records : ℕ) (packs memory : List ℕ) → (0 < core.members → meets least core ≡ true → ⊥)
-    → KeepsCores (λ c. circles) (λ c. large) (kept least (keep_if (ltb 0 core.members) (core ∷ []))) count count records records packs packs memory memory
-nothing least core circles large count records packs memory f =
+nothing : (least : Thresholds) (core : SpanCore) (circles large : ℕ) (cores : Cores) → (0 < core.members → meets least core ≡ true → ⊥)
+    → KeepsCores (λ c. circles) (λ c. large) (kept least (keep_if (ltb 0 core.members) (core ∷ []))) cores cores
+nothing least core circles large cores f =
     rw (
       kept-one least (ltb 0 core.members) core,
       keep-nil (ltb 0 core.members and meets least core) (core ∷ []) (λ e. f (ltb-true _ _ (and_left _ _ e)) (and_right _ _ e)),
@@ -37,37 +37,29 @@ nothing least core circles large count records packs memory f =
 pub returns-then-is_empty : goal.returns-then-is_empty
 returns-then-is_empty c =
     let a = c.args in
-    nothing a.least (core_of a.core.shown) _ _ _ _ _ _ (λ p m. omega (arith, eqb-true (members a.core.shown.members) 0 (sym c.is_empty.ensures ∙ c.if-is_empty.true)))
+    nothing a.least (kept_core a.core) _ _ _ (λ p m. omega (arith, eqb-true (members a.core.members) 0 (sym c.is_empty.ensures ∙ c.if-is_empty.true)))
 
 -- what is tested is whether the core meets the thresholds
 tested : (c : goal.After-met_by) →
-    let a = c.args in c.met_by.result ≡ meets a.least (core_of a.core.shown)
+    let a = c.args in c.met_by.result ≡ meets a.least (kept_core a.core)
 unfolding meets
 tested c =
-    let w = c.before.before in
-    let long : w.widen.result + 1 ≡ span_ticks w.args.core.shown.first w.args.core.shown.last = omega (arith, w.widen.ensures.0, w.requires.4) in
-    c.met_by.ensures ∙ ap₂ (λ (t k : ℕ). are_enough w.args.least t k (size (members w.args.core.shown.members))) long c.widen-2.ensures.0
+    let long : c.from-ticks.result + 1 ≡ span_ticks c.args.core.first c.args.core.last = omega (arith, c.from-ticks.ensures, c.requires.1) in
+    c.met_by.ensures ∙ ap₂ (λ (t k : ℕ). are_enough c.args.least t k (size (members c.args.core.members))) long c.from.ensures
 
-pub returns-then-not-met_by : goal.returns-then-not-met_by
-returns-then-not-met_by c =
+pub returns-else-met_by : goal.returns-else-met_by
+returns-else-met_by c =
     let a = c.args in
-    nothing a.least (core_of a.core.shown) _ _ _ _ _ _ (λ p m. clash m (sym (tested (goal.at.returns-then-not-met_by c).After-met_by) ∙ c.if-not-met_by.true))
+    nothing a.least (kept_core a.core) _ _ _ (λ p m. clash m (sym (tested (goal.at.returns-else-met_by c).After-met_by) ∙ c.if-met_by.false))
 
-pub returns : goal.returns
-returns c =
-    let w = (goal.at.returns c).After-widen-3 in
-    let t = (goal.at.returns c).After-put_set in
-    let k = (goal.at.returns c).After-pack in
-    let m = (goal.at.returns c).Else-not-met_by in
-    let e = (goal.at.returns c).Else-is_empty in
+pub returns-then-met_by : goal.returns-then-met_by
+returns-then-met_by c =
     let a = c.args in
-    let set = members a.core.shown.members in
-    let f = eqb-false set 0 (sym e.is_empty.ensures ∙ e.if-is_empty.false) in
+    let set = members a.core.members in
+    let f = eqb-false set 0 (sym c.is_empty.ensures ∙ c.if-is_empty.false) in
     let b = ltb 0 set in
     rw (
-      kept-one a.least b (core_of a.core.shown),
-      keep_all (b and meets a.least (core_of a.core.shown)) (core_of a.core.shown ∷ []) (and_in _ _ (lt-ltb 0 set (omega arith)) (sym (tested (goal.at.returns c).After-met_by) ∙ m.if-not-met_by.false)),
-      w.widen-3.ensures.0,
-      t.put_set.ensures,
+      kept-one a.least b (kept_core a.core),
+      keep_all (b and meets a.least (kept_core a.core)) (kept_core a.core ∷ []) (and_in _ _ (lt-ltb 0 set (omega arith)) (sym (tested (goal.at.returns-then-met_by c).After-met_by) ∙ c.if-met_by.true)),
     )
-    (keeps-one (core_of a.core.shown) a.core.circles a.large c.requires.0 c.requires.1 (omega arith) k.pack.ensures)
+    c.keep.ensures

@@ -2,11 +2,11 @@
 use Prim.Native.Nat.{◌≤◌}
 use Rattle.sets.specs.Tables.{concat_below}
 use Rattle.spans.specs.KeptGroups.{kept}
-use Rattle.groups.specs.Keeping.{KeepsCores, at_last}
-use Rattle.groups.proofs.KeptMemory.{line_cell}
+use Rattle.groups.specs.Keeping.{KeepsCores, circles_at, large_at}
+use Rattle.groups.proofs.KeptCores.{line_cell}
 use Rattle.groups.proofs.keeping.keep_line.Given as goal
 
 abbrev pub invariant-loop-last : goal.invariant-loop-last
 invariant-loop-last l =
     (l.first ≤ l.last) × (l.last ≤ l.ticks)
-    × KeepsCores (at_last l.circles) (at_last l.large) (kept l.least (concat_below l.last (line_cell l.orders l.members l.first))) l.initial.so_far.cores l.so_far.cores l.initial.so_far.records l.so_far.records l.initial.packs l.packs l.initial.memory l.memory
+    × KeepsCores (circles_at l.line) (large_at l.line) (kept l.least (concat_below l.last (line_cell l.line l.first))) l.initial.cores l.cores

@@ -5,4 +5,4 @@ use Rattle.groups.proofs.lines.find_line.Given as goal
 
 abbrev pub invariant-loop-last : goal.invariant-loop-last
 invariant-loop-last l =
-    Finding l.day.badges l.day.ticks l.words (members l.day.review) (members l.query) l.first l.enough l.initial.orders l.last l.rows l.reached l.upper l.orders l.cores l.circles l.large
+    Finding l.day.badges l.day.ticks l.day.words.now (members l.day.review) (members l.query) l.first l.enough l.initial.line l.last l.rows l.reached l.upper l.line

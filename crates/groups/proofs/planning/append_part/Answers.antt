@@ -5,14 +5,13 @@ use Rattle.sets.specs.Members.{members}
 use Rattle.records.proofs.WithinLimits.{limits_of}
 use Rattle.groups.proofs.PartFound.{part-found}
 use Rattle.groups.proofs.planning.append_part.Goals as goal
-use Rattle.groups.proofs.planning.append_part.Goals.{After-append_record, After-part_members, Start}
+use Rattle.groups.proofs.planning.append_part.Goals.{Start}
 
 -- no tick is large
 small : (c : goal.Start) → (c.args.span.first < 256) × (c.args.span.last < 256)
 small c =
-    let d = c.requires.0 in
-    let l = limits_of d.lent.limits in
-    (omega (arith, d.rising, d.inside, l.short), omega (arith, d.inside, l.short))
+    let l = limits_of c.args.day.now.lent.limits in
+    (omega (arith, c.args.span.rising, c.requires.0, l.short), omega (arith, c.requires.0, l.short))
 
 pub overflow_cast-part : goal.overflow_cast-part
 overflow_cast-part c = omega (arith, (small (goal.at.overflow_cast-part c).Start).0)
@@ -21,16 +20,15 @@ pub overflow_cast-part-2 : goal.overflow_cast-part-2
 overflow_cast-part-2 c = omega (arith, (small (goal.at.overflow_cast-part-2 c).Start).1)
 
 pub part_members-requires : goal.part_members-requires
-part_members-requires c = let p = c.requires in (p.0, p.1, p.2)
+part_members-requires c = let p = c.requires in (p.0, p.1)
 
 pub overflow_add-form : goal.overflow_add-form
-overflow_add-form c = omega (arith, c.requires.3)
+overflow_add-form c = omega (arith, c.requires.2)
 
 pub append_record-requires : goal.append_record-requires
-append_record-requires c = let p = c.requires in (p.3, p.4)
+append_record-requires c = let p = c.requires in (p.2, p.3)
 
 pub returns : goal.returns
 returns c =
-    let a = (goal.at.returns c).After-append_record in
-    let m = (goal.at.returns c).After-part_members in
-    rw (part-found c.requires.0 c.requires.1 (members c.args.query) c.requires.2 m.part_members.ensures) at a.append_record.ensures
+    let d = c.args.day.now in
+    rw (part-found d.lent c.args.span.rising c.requires.0 d.reviewed (members c.args.query) c.requires.1 c.part_members.ensures) at c.append_record.ensures

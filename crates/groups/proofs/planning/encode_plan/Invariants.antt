@@ -5,4 +5,4 @@ use Rattle.groups.proofs.planning.encode_plan.Given as goal
 
 abbrev pub invariant-loop-i : goal.invariant-loop-i
 invariant-loop-i l =
-    PlanSoFar l.day.badges l.day.ticks l.words (members l.day.review) (members l.query) l.parts l.ends l.scores l.i l.first l.count l.initial.buffer l.buffer
+    PlanSoFar l.day.badges l.day.ticks l.day.words.now (members l.day.review) (members l.query) l.parts l.ends l.scores l.i l.first l.count l.initial.buffer l.buffer

@@ -22,7 +22,7 @@ pub report_groups-requires : goal.report_groups-requires
 report_groups-requires c =
     let r = (goal.at.report_groups-requires c).Else-not-in_range in
     let range = ranges-of c.args.least (sym r.in_range.ensures ∙ r.if-not-in_range.false) in
-    (c.requires.0, c.requires.1, omega (arith, range.members_low))
+    omega (arith, range.members_low)
 
 pub returns : goal.returns
 returns c =

@@ -6,4 +6,4 @@ use Rattle.groups.proofs.scoring.fill_scores.Given as goal
 
 abbrev pub invariant-loop-first : goal.invariant-loop-first
 invariant-loop-first l =
-    ScoredBefore l.day.badges l.day.ticks l.words (members l.day.review) (members l.query) l.first l.orders l.members l.circles l.large l.scores
+    ScoredBefore l.day.badges l.day.ticks l.day.words.now (members l.day.review) (members l.query) l.first l.line l.scores

@@ -8,8 +8,8 @@ use Rattle.groups.proofs.scoring.put_line.Goals as goal
 pub loop-last-init : goal.loop-last-init
 loop-last-init c = (search rules, omega (arith, c.requires.inside), putting-start c.requires)
 
-pub bounds-orders-last : goal.bounds-orders-last
-bounds-orders-last c = omega (arith, c.requires.orders_size, c.loop-last-test.true)
+pub bounds-line-last : goal.bounds-line-last
+bounds-line-last c = omega (arith, c.requires.short, c.loop-last-test.true)
 
 pub overflow_mul-scores : goal.overflow_mul-scores
 overflow_mul-scores c = omega (arith, c.requires.inside, c.requires.short)

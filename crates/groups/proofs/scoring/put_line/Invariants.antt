@@ -4,4 +4,4 @@ use Rattle.groups.specs.Scoring.{LinePut}
 use Rattle.groups.proofs.scoring.put_line.Given as goal
 
 abbrev pub invariant-loop-last : goal.invariant-loop-last
-invariant-loop-last l = (l.first ≤ l.last) × (l.last ≤ l.ticks) × LinePut l.last l.first l.orders l.initial.scores l.scores
+invariant-loop-last l = (l.first ≤ l.last) × (l.last ≤ l.ticks) × LinePut l.last l.first l.line l.initial.scores l.scores
