@@ -12,14 +12,14 @@ use lib.Arith.{digits_div}
 use lib.Dec.{leb}
 use mir.Syntax.{w64}
 use mir.Val.{Fits}
-use lib.ListN.{length, get_or, set, length-set}
-use lib.Seq.{get_or-set_same, get_or-set_other}
+use lib.ListN.{length, get_or, set, drop, length-set, length-drop}
+use lib.Seq.{get_or-set_same, get_or-set_other, get_or-drop, ext_get_or}
 use borrow.Author.Tests.{leb-true, leb-false, le-leb, lt-leb}
 use Rattle.sets.specs.Bools.{◌and◌, ◌or◌}
 use Rattle.sets.specs.Sets.{has, digit, union, intersection}
 use Rattle.sets.proofs.Sets.{has-union, has-intersection}
 use Rattle.days.proofs.Days.{tick-fits}
-use Rattle.receivers.specs.Counting.{word, count_at, Exchanged, Sorted}
+use Rattle.receivers.specs.Counting.{word, count_at, Exchanged, Sorted, Copied, Combined}
 
 -- a count reaches q + 1 after one more exactly if it did before, or reached q before and there is one more
 step : (q n : ℕ) (b : Bool) → (leb (suc q) n or (leb q n and b)) ≡ leb (suc q) (n + digit b)
@@ -138,6 +138,36 @@ module _ (k size : ℕ) {lent work : List ℕ} where
     where
       last : (n : ℕ) → n ≤ k → (b : Bool) → (leb k n and b) ≡ leb (suc k) (n + digit b)
       last n h b = rw (lt-leb (suc k) n (omega arith)) at (step k n b)
+
+pub sorted_none : (size : ℕ) (lent : List ℕ) → Sorted 0 size lent lent
+sorted_none size lent = record { ranks = λ j h. absurd (not-suc-le-zero h); keeps = λ n h. refl }
+
+-- words are copied: none, and one more
+module _ (from : ℕ) (work lent : List ℕ) where
+  pub copied_none : Copied from 0 work lent lent
+  copied_none = record { same = λ i h. absurd (not-suc-le-zero h); keeps = λ n h. refl }
+
+  pub copied_more : {words : List ℕ} (c : ℕ) → c < length words → Copied from c work lent words → Copied from (c + 1) work lent (set words c (get_or work (from + c) 0))
+  copied_more {words} c h t = record {
+    same = below_more c (λ i l. get_or-set_other words c i _ 0 (omega arith) ∙ t.same i l) (get_or-set_same words c _ 0 h);
+    keeps = λ n l. get_or-set_other words c n _ 0 (omega arith) ∙ t.keeps n (omega arith);
+  }
+
+-- lists of one length that agree from a place on
+drop-same : (n : ℕ) (xs ys : List ℕ) → length xs ≡ length ys → ((i : ℕ) → n ≤ i → get_or xs i 0 ≡ get_or ys i 0) → drop n xs ≡ drop n ys
+drop-same n xs ys e f =
+    ext_get_or 0 (drop n xs) (drop n ys) (simp length-drop (rw e)) (λ i h. get_or-drop n xs i 0 ∙ f (n + i) (omega arith) ∙ sym (get_or-drop n ys i 0))
+
+-- the part of a quorum's number, copied from the sorted parts, has the badges that reach the quorum
+pub combined : {q m size : ℕ} {work sorted lent words : List ℕ} (j : ℕ) → Sorted m size work sorted → Copied (j * size) size sorted lent words → suc j ≡ q → q ≤ m
+    → length sorted ≡ length work → length words ≡ length lent → Combined q m size work lent words × (drop (m * size) sorted ≡ drop (m * size) work)
+combined {q} {m} {size} {work} {sorted} {lent} {words} j s t e k a b = (
+  record {
+    marks = λ i v l. ap (λ (x : ℕ). has x v) (t.same i l) ∙ s.ranks j (omega arith) i v l ∙ ap (λ (x : ℕ). leb x (count_at m size work i v)) e;
+    keeps = drop-same size words lent b t.keeps;
+  },
+  drop-same (m * size) sorted work a s.keeps,
+)
 
 -- a number of words up to that of words lent fits its type
 pub fits_below : (k lent : ℕ) → k ≤ lent → lent < 2 ^ 64 → Fits w64 k

@@ -22,6 +22,11 @@ pub record Sorted (k size : ℕ) (lent work : List ℕ) : Type 0 where
   pub ranks : (j : ℕ) → j < k → (i v : ℕ) → i < size → has (word size work j i) v ≡ leb (suc j) (count_at k size lent i v)
   pub keeps : (n : ℕ) → k * size ≤ n → get_or work n 0 ≡ get_or lent n 0
 
+-- The first so many words are those of the work words from a place on, and the others are as they were lent.
+pub record Copied (from count : ℕ) (work lent words : List ℕ) : Type 0 where
+  pub same : (i : ℕ) → i < count → get_or words i 0 ≡ get_or work (from + i) 0
+  pub keeps : (n : ℕ) → count ≤ n → get_or words n 0 ≡ get_or lent n 0
+
 -- The first words of a part's size hold the quorum of m parts, and the others are as they were lent.
 pub record Combined (q m size : ℕ) (work lent words : List ℕ) : Type 0 where
   pub marks : (i v : ℕ) → i < size → has (get_or words i 0) v ≡ leb q (count_at m size work i v)

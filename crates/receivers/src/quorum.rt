@@ -2,7 +2,7 @@
 // bit, ones first, by insertion; part j then has the badges that at least j + 1 of them had. Each loop takes whole parts, so that a compiler can take
 // several words at once. (The words are one slice with numbers beside it: a struct of parts would have to lend two of them at once, and is no plainer.)
 ghost use Rattle.std.specs.Prelude.{List, ◌≡◌, ℕ, ◌+◌, ◌*◌, ◌≤◌, length, drop};
-ghost use Rattle.receivers.specs.Counting.{Exchanged, Sorted, Combined};
+ghost use Rattle.receivers.specs.Counting.{Exchanged, Sorted, Copied, Combined};
 
 // The compare-exchange of a sort, for all bits of two parts: the first gets the larger of two bits, so the union of the sets, and the second the smaller,
 // so the intersection. (By index: after a loop over two `iter_mut` at once a proof knows nothing of what they wrote.)
@@ -40,6 +40,16 @@ fn sort(work: &mut [u64], m: usize, size: usize)
     }
 }
 
+// Copies the words of one part, by index: of so many words the library's copy is a call that takes a step for each byte.
+fn copy(work: &[u64], from: usize, size: usize, words: &mut [u64])
+    requires { (from + size ≤ length work.now) × (size ≤ length words.old) }
+    ensures { Copied from size work.now words.old words.new }
+{
+    for i in 0..size {
+        words[i] = work[from + i];
+    }
+}
+
 // Sets the first words to the quorum of m logs' days, and leaves these sorted.
 pub(crate) fn combine(work: &mut [u64], m: usize, size: usize, quorum: usize, words: &mut [u64])
     requires { (1 ≤ quorum) × (quorum ≤ m) × (m * size ≤ length work.old) × (size ≤ length words.old) }
@@ -47,6 +57,5 @@ pub(crate) fn combine(work: &mut [u64], m: usize, size: usize, quorum: usize, wo
     ensures keeps { drop (m * size) work.new ≡ drop (m * size) work.old }
 {
     sort(work, m, size);
-    let from = (quorum - 1) * size;
-    words[..size].copy_from_slice(&work[from..from + size]);
+    copy(work, (quorum - 1) * size, size, words);
 }

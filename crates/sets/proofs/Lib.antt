@@ -16,6 +16,7 @@ pub mod InWord
 pub mod WordByWord
 pub mod FirstWord
 pub mod Pairs
+pub mod Turns
 pub mod Places
 pub mod OneWord
 pub mod EachWord

@@ -4,7 +4,7 @@ ghost use Rattle.sets.specs.Sets.{size, TakesSmallest};
 ghost use Rattle.sets.specs.Words.{word_bits};
 ghost use Rattle.sets.specs.Members.{members, capacity};
 
-use crate::BadgeSet;
+use crate::{BadgeSet, WORD_BITS};
 
 // The ones of a word, by their places: those that are still to come.
 #[derive(Clone, Copy)]
@@ -43,11 +43,21 @@ impl Iterator for Badges {
     ghost remaining = { λ s. at_most (size (members s.left)) };
 
     fn next(&mut self) -> Option<usize> {
-        let left = self.left;
-        if left.low | left.high == 0 {
-            return None;
+        let BadgeSet { low, high } = self.left;
+        if low != 0 {
+            self.left = BadgeSet {
+                low: low & (low - 1),
+                high,
+            };
+            return Some(u64::trailing_zeros(low) as usize);
         }
-        self.left = left.rest();
-        Some(left.smallest())
+        if high != 0 {
+            self.left = BadgeSet {
+                low,
+                high: high & (high - 1),
+            };
+            return Some(WORD_BITS + u64::trailing_zeros(high) as usize);
+        }
+        None
     }
 }

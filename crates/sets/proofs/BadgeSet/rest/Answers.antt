@@ -1,21 +1,12 @@
 -- BadgeSet::rest meets its contract: the first word that has a badge loses its lowest bit, by w & (w - 1).
-use mathlib.Core.Path.{◌≡◌, sym, ap, ◌∙◌}
+use mathlib.Core.Path.{sym, ap, ◌∙◌}
 use mathlib.Core.List.{List, [], ◌∷◌}
-use Prim.Native.Nat.{ℕ, ◌-◌, ◌^◌, ◌<◌}
+use Prim.Native.Nat.{ℕ, ◌-◌}
 use native.Mathlib.Omega.{arith}
-use Rattle.sets.specs.Sets.{intersection, difference, only, smallest}
-use Rattle.sets.specs.Words.{word_bits, from_words}
-use Rattle.sets.specs.Members.{capacity}
-use Rattle.sets.proofs.FirstWord.{without_first, rest-later, rest-here, words-smallest, words-without-first}
-use Rattle.sets.proofs.Pairs.{two-words}
+use Rattle.sets.specs.Sets.{intersection}
+use Rattle.sets.proofs.FirstWord.{without_first, rest-later, rest-here}
+use Rattle.sets.proofs.Turns.{is-rest}
 use Rattle.sets.proofs.BadgeSet.rest.Goals as goal
-
--- words that are those of a set but for the lowest bit of the first word that has one
-is-rest : (l h : ℕ) {ws : List ℕ} → l < 2 ^ word_bits → h < 2 ^ word_bits → ws ≡ without_first (l ∷ h ∷ [])
-    → from_words ws ≡ difference (from_words (l ∷ h ∷ [])) (only (smallest capacity (from_words (l ∷ h ∷ []))))
-is-rest l h p q e =
-    let w = two-words p q in
-    ap from_words e ∙ words-without-first (l ∷ h ∷ []) w ∙ ap (λ (x : ℕ). difference (from_words (l ∷ h ∷ [])) (only x)) (sym (words-smallest (l ∷ h ∷ []) w))
 
 pub returns-then-self-eq0-2 : goal.returns-then-self-eq0-2
 unfolding without_first

@@ -1,30 +1,30 @@
--- `Badges::next` meets its contract: where the set is not empty, its smallest badge is a member of it, so one badge fewer is left.
-use mathlib.Core.Path.{◌≡◌, refl, sym, ◌∙◌}
+-- `Badges::next` meets its contract: the smallest badge is in the first word that has one, and w & (w - 1) has that word's others.
+use mathlib.Core.Path.{refl}
 use native.Mathlib.Omega.{arith}
 use borrow.Author.Rules.{rules}
-use borrow.Author.Tests.{eqb-true, eqb-false, eq-eqb, ne_eqb}
-use Rattle.sets.specs.Members.{capacity, members}
-use Rattle.sets.proofs.Smallest.{smallest-member}
-use Rattle.sets.proofs.Size.{size-without}
-use Rattle.sets.proofs.Pairs.{members-lt, empty-two}
+use Rattle.sets.specs.Words.{from_words}
+use Rattle.sets.proofs.Pairs.{members-lt}
+use Rattle.sets.proofs.Turns.{turn-low, turn-high, turn-fewer}
 use Rattle.sets.proofs.walking.BadgesIterator.next.Goals as goal
-use Rattle.sets.proofs.walking.BadgesIterator.next.Goals.{Else-left-eq0}
 
-pub returns-then-left-eq0-clause-steps : goal.returns-then-left-eq0-clause-steps
-returns-then-left-eq0-clause-steps c = let s = c.args.self.now.left in (eqb-true _ _ (sym (empty-two s.low s.high) ∙ eq-eqb _ _ c.if-left-eq0.true), refl)
+pub returns-then-low-ne0-clause-steps : goal.returns-then-low-ne0-clause-steps
+returns-then-low-ne0-clause-steps c = let s = c.args.self.now.left in turn-low s.low s.high (omega arith) (omega arith) c.if-low-ne0.true
 
--- there are members, where a badge comes
-some : (c : goal.Else-left-eq0) → members c.args.self.now.left ≡ 0 → ⊥
-some c = let s = c.args.self.now.left in eqb-false _ _ (sym (empty-two s.low s.high) ∙ ne_eqb _ _ c.if-left-eq0.false)
+pub returns-then-low-ne0-clause-goes : goal.returns-then-low-ne0-clause-goes
+returns-then-low-ne0-clause-goes c =
+    let s = c.args.self.now.left in
+    let fewer = turn-fewer (members-lt s (omega arith) (omega arith)) (turn-low s.low s.high (omega arith) (omega arith) c.if-low-ne0.true) in
+    record { on = λ _. (search rules, search rules, fewer); keeps = search rules; rests = search rules }
+
+pub returns-then-high-ne0-clause-steps : goal.returns-then-high-ne0-clause-steps
+returns-then-high-ne0-clause-steps c = let s = c.args.self.now.left in turn-high s.low s.high (omega arith) (omega arith) c.if-low-ne0.false c.if-high-ne0.true
+
+pub returns-then-high-ne0-clause-goes : goal.returns-then-high-ne0-clause-goes
+returns-then-high-ne0-clause-goes c =
+    let s = c.args.self.now.left in
+    let fewer = turn-fewer (members-lt s (omega arith) (omega arith)) (turn-high s.low s.high (omega arith) (omega arith) c.if-low-ne0.false c.if-high-ne0.true) in
+    record { on = λ _. (search rules, search rules, fewer); keeps = search rules; rests = search rules }
 
 pub returns-clause-steps : goal.returns-clause-steps
-returns-clause-steps c =
-    let n = some (goal.at.returns-clause-steps c).Else-left-eq0 in
-    (omega arith, c.smallest.ensures, rw c.smallest.ensures c.rest-self.ensures)
-
-pub returns-clause-goes : goal.returns-clause-goes
-returns-clause-goes c =
-    let s = c.args.self.now.left in
-    let known = members-lt s (omega arith) (omega arith) in
-    let fewer = size-without _ _ (smallest-member capacity (members s) known (some (goal.at.returns-clause-goes c).Else-left-eq0)).0 in
-    record { on = λ _. (search rules, search rules, rw c.rest-self.ensures fewer); keeps = search rules; rests = search rules }
+unfolding from_words
+returns-clause-steps c = (omega arith, refl)
