@@ -52,10 +52,8 @@ pub(crate) fn append_circles(
     let mut left = core.members;
     while !left.is_empty() {
         let circle = circle_of(rows, left);
-        let appended = append_circle(buffer, form, so_far, core, circle, enough);
-        so_far = appended;
-        let rest = left.difference(circle);
-        left = rest;
+        so_far = append_circle(buffer, form, so_far, core, circle, enough);
+        left = left.difference(circle);
     }
     so_far
 }

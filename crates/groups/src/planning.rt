@@ -90,8 +90,7 @@ fn encode_plan(
     for i in 0..parts {
         let last = usize::from(ends[i]);
         let score = scores[first * MAX_TICKS + last];
-        let appended = append_part(day, query, Span { first, last }, score, form, buffer, count);
-        count = appended;
+        count = append_part(day, query, Span { first, last }, score, form, buffer, count);
         first = last + 1;
     }
     put_record(

@@ -1,7 +1,6 @@
 -- record_bytes meets its contract: after the mark and three bytes come those of the set's two words.
 use mathlib.Core.Path.{◌≡◌, sym, ap, ◌∙◌}
-use mathlib.Core.List.{List, [], ◌∷◌, append-nil}
-use Prim.Native.Nat.{ℕ}
+use mathlib.Core.List.{[], ◌∷◌, append-nil}
 use lib.ListN.{get_or}
 use borrow.Author.Rules.{rules}
 use Rattle.std.specs.Int.{w64, to_le_bytes}
