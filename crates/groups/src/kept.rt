@@ -8,7 +8,8 @@ use sets::BadgeSet;
 // A day has no more maximal cores than spans.
 pub(crate) const MAX_CORES: usize = MAX_TICKS * (MAX_TICKS + 1) / 2;
 
-// A core that is kept: its order, its span and its members, and how many circles it has.
+// A core that is kept: its order, its span and its members, and how many circles it has. Its fields are those of a record, and stand side by side: a struct in
+// this struct would make it longer, and all places are cleared in each report.
 #[derive(Clone, Copy)]
 pub(crate) struct Kept {
     pub(crate) order: u8,

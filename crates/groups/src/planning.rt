@@ -87,6 +87,7 @@ fn encode_plan(
     let record = 5 + form.width;
     let mut first: usize = 0;
     let mut count: usize = 0;
+    // An iterator is no plainer here: a part starts where the one before it ends.
     for i in 0..parts {
         let last = usize::from(ends[i]);
         let score = scores[first * MAX_TICKS + last];
