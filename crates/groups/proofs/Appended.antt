@@ -1,11 +1,12 @@
 -- Laws of records that are appended to a buffer: their bytes one after the other.
 use mathlib.Core.Path.{◌≡◌, refl, sym, ap, ◌∙◌}
 use mathlib.Core.List.{List, [], ◌∷◌, ◌++◌, append_assoc, append-nil}
-use Prim.Native.Nat.{ℕ, ◌+◌, ◌-◌, ◌*◌, ◌^◌, ◌≤◌, ◌<◌}
+use Prim.Native.Nat.{ℕ, ◌+◌, ◌-◌, ◌*◌, ◌/◌, ◌%◌, ◌^◌, ◌≤◌, ◌<◌}
 use native.Mathlib.Nat.{mul-add, mul-le-mul, mul-le-mul_left}
 use native.Mathlib.Omega.{arith}
 use lib.ListN.{length, get_or, take, drop, length-append}
 use lib.Seq.{drop-drop}
+use Rattle.std.specs.Int.{w64, to_le_bytes}
 use Rattle.sets.specs.Bytes.{little_endian}
 use Rattle.sets.proofs.Bytes.{append-little-endian}
 use Rattle.logs.specs.Buffers.{place}
@@ -28,6 +29,19 @@ two-letters [] two rest = absurd (omega arith)
 two-letters (a ∷ []) two rest = absurd (omega arith)
 two-letters (a ∷ b ∷ []) two rest = refl
 two-letters (a ∷ b ∷ d ∷ mark) two rest = absurd (omega arith)
+
+-- the bytes of a word, the lowest first
+pub le-bytes : (x : ℕ) → to_le_bytes w64 x ≡ little_endian 8 x
+unfolding little_endian
+le-bytes x =
+    let a : x / 256 ^ 1 % 256 ≡ x / 256 % 256 = omega arith in
+    let b : x / 256 ^ 2 % 256 ≡ x / 256 / 256 % 256 = omega arith in
+    let c : x / 256 ^ 3 % 256 ≡ x / 256 / 256 / 256 % 256 = omega arith in
+    let d : x / 256 ^ 4 % 256 ≡ x / 256 / 256 / 256 / 256 % 256 = omega arith in
+    let e : x / 256 ^ 5 % 256 ≡ x / 256 / 256 / 256 / 256 / 256 % 256 = omega arith in
+    let f : x / 256 ^ 6 % 256 ≡ x / 256 / 256 / 256 / 256 / 256 / 256 % 256 = omega arith in
+    let g : x / 256 ^ 7 % 256 ≡ x / 256 / 256 / 256 / 256 / 256 / 256 / 256 % 256 = omega arith in
+    rw (a, b, c, d, e, f, g) refl
 
 -- a record with a set of 16 bytes: those of its lower and of its upper word
 pub wide-record : (mark : List ℕ) → length mark ≡ 2 → (c : SpanCore) (lower upper : ℕ) → lower < 2 ^ 64 → lower + upper * 2 ^ 64 ≡ c.members → (xs ys : List ℕ) → xs ≡ little_endian 8 lower → ys ≡ little_endian 8 upper

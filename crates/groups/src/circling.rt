@@ -50,12 +50,11 @@ pub(crate) fn append_circles(
 {
     let mut so_far = count;
     let mut left = core.members;
+    // A `for` is no plainer here: there is no index, and each turn says what is left.
     while !left.is_empty() {
         let circle = circle_of(rows, left);
-        let appended = append_circle(buffer, form, so_far, core, circle, enough);
-        so_far = appended;
-        let rest = left.difference(circle);
-        left = rest;
+        so_far = append_circle(buffer, form, so_far, core, circle, enough);
+        left = left.difference(circle);
     }
     so_far
 }

@@ -18,59 +18,18 @@ pub(crate) struct Shown {
     pub(crate) members: BadgeSet,
 }
 
-// The bytes of a word, the lowest first.
-fn word_bytes(word: u64) -> [u8; 8]
-    ensures { result ≡ little_endian 8 word }
-{
-    let m1 = word / 256;
-    let m2 = m1 / 256;
-    let m3 = m2 / 256;
-    let m4 = m3 / 256;
-    let m5 = m4 / 256;
-    let m6 = m5 / 256;
-    let m7 = m6 / 256;
-    [
-        (word % 256) as u8,
-        (m1 % 256) as u8,
-        (m2 % 256) as u8,
-        (m3 % 256) as u8,
-        (m4 % 256) as u8,
-        (m5 % 256) as u8,
-        (m6 % 256) as u8,
-        (m7 % 256) as u8,
-    ]
-}
-
 // The bytes of a record with a mark and a set of 16 bytes, those of its two words. They start with the bytes of the same record with a shorter set.
 fn record_bytes(mark: [u8; 2], shown: Shown) -> [u8; 21]
     ensures { result ≡ encode_core 16 mark (core_of shown) }
 {
-    let set = shown.members;
-    let lower = word_bytes(set.word(0));
-    let upper = word_bytes(set.word(1));
-    [
-        mark[0],
-        mark[1],
-        shown.order,
-        shown.first,
-        shown.last,
-        lower[0],
-        lower[1],
-        lower[2],
-        lower[3],
-        lower[4],
-        lower[5],
-        lower[6],
-        lower[7],
-        upper[0],
-        upper[1],
-        upper[2],
-        upper[3],
-        upper[4],
-        upper[5],
-        upper[6],
-        upper[7],
-    ]
+    let mut bytes = [0u8; 21];
+    bytes[..2].copy_from_slice(&mark);
+    bytes[2] = shown.order;
+    bytes[3] = shown.first;
+    bytes[4] = shown.last;
+    bytes[5..13].copy_from_slice(&shown.members.word(0).to_le_bytes());
+    bytes[13..].copy_from_slice(&shown.members.word(1).to_le_bytes());
+    bytes
 }
 
 // Puts a record with a mark and a set of so many bytes at a place of a buffer. A plan's header is laid out alike: its mark, n, T, h, query.

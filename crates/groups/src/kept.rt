@@ -8,7 +8,8 @@ use sets::BadgeSet;
 // A day has no more maximal cores than spans.
 pub(crate) const MAX_CORES: usize = MAX_TICKS * (MAX_TICKS + 1) / 2;
 
-// A core that is kept: its order, its span and its members, and how many circles it has.
+// A core that is kept: its order, its span and its members, and how many circles it has. Its fields are those of a record, and stand side by side: a struct in
+// this struct would make it longer, and all places are cleared in each report.
 #[derive(Clone, Copy)]
 pub(crate) struct Kept {
     pub(crate) order: u8,
@@ -32,20 +33,19 @@ impl Cores {
     ghost use Rattle.std.specs.Prelude.{◌≡◌, ◌∷◌, [], ◌<◌, take};
     ghost use Rattle.groups.specs.Keeping.{kept_core, KeepsCores};
 
-    // No core is kept at first. What stands at the places does not matter: ones are put there by wide stores, where zeros would be by a call that counts
-    // a step for each byte.
+    // No core is kept at first. What stands at the places does not matter: the compiler clears an array before it is filled, so zeros cost nothing more.
     pub(crate) fn new() -> Self
         ensures { result.count ≡ 0 }
     {
-        let one = Kept {
-            order: 1,
-            first: 1,
-            last: 1,
-            circles: 1,
+        let none = Kept {
+            order: 0,
+            first: 0,
+            last: 0,
+            circles: 0,
             members: BadgeSet::EMPTY,
         };
         Cores {
-            kept: [one; MAX_CORES],
+            kept: [none; MAX_CORES],
             count: 0,
             records: 0,
         }

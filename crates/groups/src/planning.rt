@@ -86,11 +86,11 @@ fn encode_plan(
     let record = 5 + form.width;
     let mut first: usize = 0;
     let mut count: usize = 0;
+    // An iterator is no plainer here: a part starts where the one before it ends.
     for i in 0..parts {
         let last = usize::from(ends[i]);
         let score = scores[first * MAX_TICKS + last];
-        let appended = append_part(day, query, Span { first, last }, score, form, buffer, count);
-        count = appended;
+        count = append_part(day, query, Span { first, last }, score, form, buffer, count);
         first = last + 1;
     }
     put_record(

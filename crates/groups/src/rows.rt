@@ -4,7 +4,6 @@ ghost use Rattle.spans.specs.Spans.{span_words};
 ghost use Rattle.groups.specs.Steps.{NextTick, Narrows, SideOf, NarrowsSide, RowsTo, EmptyFrom};
 
 use crate::day::{Day, Span};
-use checks::copy_tick;
 use sets::{ROW_WORDS, SET_WORDS, WORD_BITS};
 
 // Narrows one word of the row of u, that at a place in the row, its side: of the neighbours of u that the word has, those stay that the tick has, too.
@@ -16,15 +15,14 @@ fn narrow_row(rows: &mut [u64], tick: &[u64], side: usize, u: usize)
     rows[at] = rows[at] & tick[at];
 }
 
-// Narrows one side of four rows, from that of u on.
-fn narrow_four(rows: &mut [u64], tick: &[u64], side: usize, u: usize)
-    requires { SideOf rows.old tick.now side (u + 4) }
-    ensures { NarrowsSide tick.now side u (u + 4) rows.old rows.new }
+// Narrows one side of N rows, from that of u on: a loop of so few turns that the compiler leaves none of it.
+fn narrow_some<const N: usize>(rows: &mut [u64], tick: &[u64], side: usize, u: usize)
+    requires { SideOf rows.old tick.now side (u + N) }
+    ensures { NarrowsSide tick.now side u (u + N) rows.old rows.new }
 {
-    narrow_row(rows, tick, side, u);
-    narrow_row(rows, tick, side, u + 1);
-    narrow_row(rows, tick, side, u + 2);
-    narrow_row(rows, tick, side, u + 3);
+    for i in u..u + N {
+        narrow_row(rows, tick, side, i);
+    }
 }
 
 // Narrows one side of so many times eight rows, eight in a turn: a turn of one row would spend more on the loop than on the row.
@@ -33,8 +31,7 @@ fn narrow_by_eight(rows: &mut [u64], tick: &[u64], side: usize, eights: usize)
     ensures { NarrowsSide tick.now side 0 (8 * eights) rows.old rows.new }
 {
     for i in 0..eights {
-        narrow_four(rows, tick, side, 8 * i);
-        narrow_four(rows, tick, side, 8 * i + 4);
+        narrow_some::<8>(rows, tick, side, 8 * i);
     }
 }
 
@@ -64,13 +61,15 @@ pub(crate) fn narrow(rows: &mut [u64], tick: &[u64])
     }
 }
 
-// Narrows the rows of the span from a span's first tick to an earlier tick, tick by tick, to those of the whole span.
+// Narrows the rows of the span from a span's first tick to an earlier tick, tick by tick, to those of the whole span. The day is copied, since a copy of its own
+// is not read again after each row that is written.
 pub(crate) fn narrow_to(rows: &mut [u64], day: &Day, reached: usize, span: Span)
     requires { (span.last < day.now.ticks) × RowsTo day.now.badges day.now.words.now span.first span.last rows.old reached }
     ensures { rows.new ≡ span_words day.now.badges day.now.words.now span.first span.last }
 {
+    let lent = *day;
     for t in reached..span.last {
-        narrow(rows, day.tick(t + 1));
+        narrow(rows, lent.tick(t + 1));
     }
 }
 
@@ -79,7 +78,8 @@ pub(crate) fn first_rows(rows: &mut [u64; ROW_WORDS], day: &Day, first: usize)
     requires { (first < day.now.ticks) × EmptyFrom day.now.badges rows.old }
     ensures { rows.new ≡ span_words day.now.badges day.now.words.now first first }
 {
-    copy_tick(rows, day.tick(first));
+    let tick = day.tick(first);
+    rows[..tick.len()].copy_from_slice(tick);
 }
 
 // Turns the rows of one span into those of another: where that is longer at its end alone, they are narrowed further.

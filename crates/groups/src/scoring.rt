@@ -14,6 +14,7 @@ fn put_line(line: &[Found; LINE], first: usize, ticks: usize, scores: &mut [u8])
     requires { LinePlaces ticks first scores.old }
     ensures { LinePut ticks first line.now scores.old scores.new }
 {
+    // No `copy_from_slice` here: the scores stand in the entries of the line, one in each.
     for last in first..ticks {
         scores[first * MAX_TICKS + last] = line[last].order;
     }

@@ -48,15 +48,15 @@ overflow_add-score c = omega (arith, place (goal.at.overflow_add-score c).After-
 pub bounds-scores-first : goal.bounds-scores-first
 bounds-scores-first c = omega (arith, place (goal.at.bounds-scores-first c).After-from-last)
 
-pub append_part-appended-requires : goal.append_part-appended-requires
-append_part-appended-requires c =
+pub append_part-count-requires : goal.append_part-count-requires
+append_part-count-requires c =
     let s = c.loop-i.invariant in
     let l = c.loop-i-test.true in
     let room = plan-room s l c.form_of-form.ensures in
     (rw c.from-last.ensures (plan-inside s l), rw c.from-last.ensures (plan-score s l), room.0, room.1)
 
 pub loop-i-preserved : goal.loop-i-preserved
-loop-i-preserved c = plan-next c.loop-i.invariant c.loop-i-test.true c.form_of-form.ensures c.from-last.ensures c.append_part-appended.ensures
+loop-i-preserved c = plan-next c.loop-i.invariant c.loop-i-test.true c.form_of-form.ensures c.from-last.ensures c.append_part-count.ensures
 
 -- the parts have few bytes
 after : (c : goal.After-loop-i) → (c.form_of-form.result.width ≤ 16) × (core_bytes c.form_of-form.result.width * c.loop-i.count ≤ 2016)
