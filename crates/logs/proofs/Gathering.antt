@@ -1,23 +1,26 @@
 -- Laws of the columns of a badge: for each larger one, the ticks in which they meet.
-use mathlib.Core.Path.{◌≡◌, refl, ap, ◌∙◌}
+use mathlib.Core.Path.{◌≡◌, refl, ap, ◌∙◌, sym}
 use mathlib.Core.Bool.{Bool, true, false}
 use mathlib.Core.List.{List}
-use Prim.Native.Nat.{ℕ, ◌+◌, ◌-◌, ◌≤◌, ◌<◌, min}
+use Prim.Native.Nat.{ℕ, ◌+◌, ◌-◌, ◌≤◌, ◌<◌, min, ◌^◌}
 use native.Mathlib.Omega.{arith}
 use lib.Dec.{ltb}
 use lib.ListN.{get_or, replicate, get_or-replicate}
 use borrow.Author.Tests.{ltb-true, ltb-false}
-use Rattle.sets.specs.Sets.{has, set_of, union, difference, only, full}
+use Rattle.sets.specs.Sets.{has, set_of, union, difference, only, full, bit}
 use Rattle.sets.specs.Members.{capacity}
-use Rattle.sets.specs.Words.{word_bits}
+use Rattle.sets.specs.Words.{word_bits, lower_words, to_words, in_word}
 use Rattle.sets.specs.Tables.{piecewise}
 use Rattle.sets.proofs.Bools.{same_test, to-false}
 use Rattle.sets.proofs.Sets.{in-test, has-test, out-test, in-set, of-set, of-set-lt, of-difference, in-difference, of-full, set-yes, set-no}
-use Rattle.sets.proofs.Tables.{tabulate-length, tabulate-at, piecewise-in, piecewise-out}
+use Rattle.sets.proofs.Tables.{tabulate-length, tabulate-at, piecewise-in, piecewise-out, tabulate-same, piecewise_same}
 use Rattle.days.specs.Days.{neighbours, adjacent}
 use Rattle.logs.specs.declared.ticks.TickSet.{TickSet}
 use Rattle.logs.specs.TickSets.{tick_capacity, has_tick, TicksBelow, united, Columns}
 use Rattle.logs.proofs.TickSets.{has-low, has-high}
+use mathlib.Core.Logic.{by_cases}
+use native.Mathlib.Decide.{ℕ_discrete, dec_lt}
+use Rattle.sets.proofs.InWord.{word-has, word_of}
 
 -- a set of the numbers below m that pass a test has those and no other
 has-set : (m : ℕ) (p : ℕ → Bool) (t : ℕ) → t < m → has (set_of m p) t ≡ p t
@@ -25,6 +28,33 @@ has-set m p t h = same_test _ _ (λ e. of-set m p t (in-test _ t e)) (λ e. has-
 
 has-none : (m : ℕ) (p : ℕ → Bool) (t : ℕ) → m ≤ t → has (set_of m p) t ≡ false
 has-none m p t h = to-false _ (λ e. let l = of-set-lt m p t (in-test _ t e) in omega arith)
+
+-- bits added to the columns of the badges of a set, word by word
+pub united-words : (table : List ℕ) (s bits : ℕ) → s < 2 ^ capacity
+    → united (united table (in_word 0 (get_or (to_words lower_words s) 0 0)) bits) (in_word 1 (get_or (to_words lower_words s) 1 0)) bits ≡ united table s bits
+unfolding united
+united-words table s bits h = tabulate-same capacity _ _ (λ v l. by_cases (ℕ_discrete (bit high v) 1)
+    (λ i.
+    let x = word_of s h 1 v i in
+    piecewise-in high _ _ v i
+    ∙ ap (λ (y : ℕ). union y bits) (tabulate-at capacity _ v l ∙ piecewise-out low f g v (λ j. let y = word_of s h 0 v j in omega (arith, x.0, y.0)))
+    ∙ sym (piecewise-in s f g v x.1))
+    (λ k.
+    piecewise-out high _ _ v k ∙ tabulate-at capacity _ v l
+    ∙ piecewise_same low s f g v (λ j. (word_of s h 0 v j).1)
+    (λ j. word-has s h 0 v j (by_cases (dec_lt v word_bits) (λ m. omega arith) (λ m. absurd (k (word-has s h 1 v j (omega arith))))))))
+  where
+    low : ℕ
+    low = in_word 0 (get_or (to_words lower_words s) 0 0)
+
+    high : ℕ
+    high = in_word 1 (get_or (to_words lower_words s) 1 0)
+
+    f : ℕ → ℕ
+    f = λ v. union (get_or table v 0) bits
+
+    g : ℕ → ℕ
+    g = λ v. get_or table v 0
 
 module _ (n : ℕ) (ws : List ℕ) (u from : ℕ) where
   -- before the first tick all columns are empty
