@@ -1,27 +1,22 @@
 -- Laws of the loops that work out a span's rows, narrowed tick by tick.
-use mathlib.Core.Path.{◌≡◌, refl, sym, ap, ◌∙◌}
-use mathlib.Core.List.{List, ◌++◌}
+use mathlib.Core.Path.{◌≡◌, refl, ap, ◌∙◌}
+use mathlib.Core.List.{List}
 use mathlib.Core.Logic.{by_cases}
 use Prim.Native.Nat.{ℕ, ◌+◌, ◌-◌, ◌*◌, ◌≤◌, ◌<◌}
 use native.Mathlib.Nat.{le_refl, mul_assoc}
 use native.Mathlib.Numerals.{add-one}
 use native.Mathlib.Decide.{dec_lt}
 use native.Mathlib.Omega.{arith}
-use lib.ListN.{length, get_or, take, drop, length-append, get_or-append, replicate, length-drop, length-replicate, get_or-replicate}
+use lib.ListN.{length, take, drop, replicate, length-drop, length-replicate, get_or-replicate}
 use lib.Seq.{length-take-le}
-use Rattle.std.proofs.lemmas.List.{get_or-append_right, get_or-drop}
-use Rattle.sets.specs.Sets.{full}
 use Rattle.sets.specs.Members.{capacity, row_words}
-use Rattle.sets.specs.Tables.{piecewise}
-use Rattle.sets.proofs.Sets.{in-full, of-full}
-use Rattle.sets.proofs.Tables.{tabulate-is, piecewise-in, piecewise-out}
-use Rattle.sets.specs.Words.{set_words, Words, places, words_of}
+use Rattle.sets.specs.Words.{set_words, Words, words_of}
 use Rattle.sets.proofs.Words.{words_take, words-drop}
 use Rattle.sets.proofs.Places.{set-at-out, set-at-sets, words-zero}
 use Rattle.records.proofs.WithinLimits.{limits_of}
 use Rattle.checks.specs.Arrays.{tick_over}
 use Rattle.days.proofs.Days.{tick-fits}
-use Rattle.checks.proofs.TickRows.{over-empty, over-copied}
+use Rattle.checks.proofs.TickRows.{over-empty}
 use Rattle.days.specs.Days.{LentDay}
 use Rattle.spans.specs.Spans.{span_words}
 use Rattle.spans.proofs.SpanRows.{span-words-length, span-set-none}
@@ -43,25 +38,9 @@ pub tick-fit : (n : ℕ) (ws : List ℕ) (t : ℕ) → Words ws → Words (tick_
 unfolding tick_of
 tick-fit n ws t w = words_take (n * set_words) (words-drop (t * n * set_words) w)
 
-pub tick-length : {n T : ℕ} {ws : List ℕ} (t : ℕ) → LentDay n T ws → t < T → length (tick_of n ws t) ≡ n * set_words
+tick-length : {n T : ℕ} {ws : List ℕ} (t : ℕ) → LentDay n T ws → t < T → length (tick_of n ws t) ≡ n * set_words
 unfolding tick_of
 tick-length {n} {T} {ws} t d l = length-take-le (n * set_words) (drop (t * n * set_words) ws) (omega (arith, tick-inside t d l, length-drop (t * n * set_words) ws, mul_assoc t n set_words))
-
--- the words of a tick, put over those of all rows
-tick-over : (n : ℕ) (tick given : List ℕ) → n ≤ capacity → length tick ≡ n * set_words → length given ≡ row_words → Words tick → Words given → tick ++ drop (length tick) given ≡ words_of (tick_over tick given)
-tick-over n tick given few whole long v w = over-copied tick given v w long (tabulate-is row_words (tick ++ drop (length tick) given) _ size same)
-  where
-    size : length (tick ++ drop (length tick) given) ≡ row_words
-    size = omega (arith, length-append tick (drop (length tick) given), length-drop (length tick) given)
-
-    same : (i : ℕ) → i < row_words → get_or (tick ++ drop (length tick) given) i 0 ≡ piecewise (full (places tick * set_words)) (λ i. get_or tick i 0) (λ i. get_or given i 0) i
-    same i l = by_cases (dec_lt i (places tick * set_words))
-        (λ p. get_or-append tick (drop (length tick) given) 0 i (omega arith) ∙ sym (piecewise-in (full (places tick * set_words)) _ _ i (in-full _ i p)))
-        (λ p.
-        let here : length tick + (i - length tick) ≡ i = omega arith in
-        let past : get_or (tick ++ drop (length tick) given) i 0 ≡ get_or given i 0 =
-        get_or-append_right tick (drop (length tick) given) (length tick) i 0 refl (omega arith) ∙ get_or-drop (length tick) given (i - length tick) 0 ∙ ap (λ (j : ℕ). get_or given j 0) here in
-        past ∙ sym (piecewise-out (full (places tick * set_words)) _ _ i (λ j. p (of-full _ i j))))
 
 -- an array of empty rows, and the rows of a span, which are empty from n up
 pub empty-zeros : (n : ℕ) → EmptyFrom n (replicate row_words 0)
@@ -79,12 +58,10 @@ module _ {n T : ℕ} {ws : List ℕ} (d : LentDay n T ws) where
   few = (limits_of d.limits).few
 
   -- the rows of the first tick are those of its span
-  pub first-tick : {first : ℕ} {given : List ℕ} → first < T → EmptyFrom n given → length given ≡ row_words → Words (tick_of n ws first) → Words given
-      → tick_of n ws first ++ drop (length (tick_of n ws first)) given ≡ span_words n ws first first
-  first-tick {first} {given} l z long v w =
+  pub first-tick : {first : ℕ} {given rows : List ℕ} → first < T → EmptyFrom n given → rows ≡ words_of (tick_over (tick_of n ws first) given) → rows ≡ span_words n ws first first
+  first-tick {first} {given} l z e =
       let whole = tick-length first d l in
-      tick-over n (tick_of n ws first) given few whole long v w
-      ∙ ap words_of (over-empty (tick_of n ws first) given (λ u l. z.past u (omega (arith, whole))) ∙ tick-span n T ws first d.day l)
+      e ∙ ap words_of (over-empty (tick_of n ws first) given (λ u l. z.past u (omega (arith, whole))) ∙ tick-span n T ws first d.day l)
 
   module _ {first last t : ℕ} {rows : List ℕ} (g : RowsTo n ws first last rows t) (l : t < last) (h : last < T) where
     -- the words of the next tick narrow them

@@ -4,6 +4,7 @@ ghost use Rattle.spans.specs.Spans.{span_words};
 ghost use Rattle.groups.specs.Steps.{NextTick, Narrows, SideOf, NarrowsSide, RowsTo, EmptyFrom};
 
 use crate::day::{Day, Span};
+use checks::copy_tick;
 use sets::{ROW_WORDS, SET_WORDS, WORD_BITS};
 
 // Narrows one word of the row of u, that at a place in the row, its side: of the neighbours of u that the word has, those stay that the tick has, too.
@@ -78,8 +79,7 @@ pub(crate) fn first_rows(rows: &mut [u64; ROW_WORDS], day: &Day, first: usize)
     requires { (first < day.now.ticks) × EmptyFrom day.now.badges rows.old }
     ensures { rows.new ≡ span_words day.now.badges day.now.words.now first first }
 {
-    let tick = day.tick(first);
-    rows[..tick.len()].copy_from_slice(tick);
+    copy_tick(rows, day.tick(first));
 }
 
 // Turns the rows of one span into those of another: where that is longer at its end alone, they are narrowed further.
