@@ -21,11 +21,9 @@ pub record Counted (cs : List ℕ) (enough all large : ℕ) : Type 0 where
   pub in_all : all ≡ length cs
   pub with_enough : large ≡ length (at_least enough cs)
 
--- a core of order k with its circles, counted in the graph of some rows, where a number of members is enough for one
-pub record CoreCounted (rows : List ℕ) (k s enough : ℕ) (found : Found) : Type 0 where
-  pub order : found.order ≡ k
-  pub set : members found.members ≡ s
-  pub counted : 1 ≤ enough → Counted (circles (graph rows) s) enough found.circles found.large
+-- the circles of a set, counted in the graph of some rows, where a number of members is enough for one
+pub record CoreCounted (rows : List ℕ) (s enough all large : ℕ) : Type 0 where
+  pub counted : 1 ≤ enough → Counted (circles (graph rows) s) enough all large
 
 -- scores by last tick: those of the spans that start one tick before first
 pub record ScoresBefore (n T : ℕ) (ws : List ℕ) (base query first : ℕ) (line : List Found) : Type 0 where

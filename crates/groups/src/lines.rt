@@ -33,24 +33,27 @@ impl Found {
 // The spans that start with one tick, by last tick, and after the last of a day one of order 0.
 pub(crate) const LINE: usize = MAX_TICKS + 1;
 
-// A core of an order, with its circles. They are counted from the rows that came back from peeling, and where no number of members is enough, not at all.
-fn count_core(rows: &[u64; ROW_WORDS], order: u8, core: BadgeSet, enough: usize) -> Found
-    ensures { CoreCounted rows.now order (members core) enough result }
+// How many circles a core has, and how many of them have members enough.
+#[derive(Clone, Copy)]
+struct Counts {
+    circles: u8,
+    large: u8,
+}
+
+// Counts the circles of a core from the rows that came back from peeling, and where no number of members is enough, not at all.
+fn count_core(rows: &[u64; ROW_WORDS], core: BadgeSet, enough: usize) -> Counts
+    ensures { CoreCounted rows.now (members core) enough result.circles result.large }
 {
     if enough == 0 {
-        return Found {
-            order,
+        return Counts {
             circles: 0,
             large: 0,
-            members: core,
         };
     }
     let counted = count_circles(rows, core, enough);
-    Found {
-        order,
+    Counts {
         circles: counted.all as u8,
         large: counted.large as u8,
-        members: core,
     }
 }
 
@@ -88,6 +91,12 @@ pub(crate) fn find_line(
         let core = highest_core(rows, base, query, lower, upper);
         rows = core.rows;
         upper = core.order;
-        line[last] = count_core(&rows, core.order, core.members, enough);
+        let counts = count_core(&rows, core.members, enough);
+        line[last] = Found {
+            order: core.order,
+            circles: counts.circles,
+            large: counts.large,
+            members: core.members,
+        };
     }
 }

@@ -1,5 +1,4 @@
 -- `count_core` meets its contract: a set's circles are few enough for a byte each.
-use mathlib.Core.Path.{refl}
 use Prim.Native.Nat.{◌≤◌}
 use native.Mathlib.Omega.{arith}
 use lib.ListN.{length}
@@ -14,7 +13,7 @@ use Rattle.groups.proofs.lines.count_core.Goals as goal
 use Rattle.groups.proofs.lines.count_core.Goals.{After-count_circles-counted}
 
 pub returns-then-enough-eq0 : goal.returns-then-enough-eq0
-returns-then-enough-eq0 c = record { order = refl; set = refl; counted = λ p. absurd (omega (arith, c.if-enough-eq0.true)) }
+returns-then-enough-eq0 c = record { counted = λ p. absurd (omega (arith, c.if-enough-eq0.true)) }
 
 -- the circles are few
 few : (c : goal.After-count_circles-counted) → (c.count_circles-counted.result.all ≤ capacity) × (c.count_circles-counted.result.large ≤ capacity)
@@ -36,4 +35,4 @@ overflow_cast-result-2 c = omega (arith, (few (goal.at.overflow_cast-result-2 c)
 pub returns : goal.returns
 returns c =
     let e = c.count_circles-counted.ensures in
-    record { order = refl; set = refl; counted = λ p. record { in_all = e.all; with_enough = e.large } }
+    record { counted = λ p. record { in_all = e.all; with_enough = e.large } }

@@ -64,9 +64,8 @@ loop-last-preserved c =
     let t = c.intersection-base.ensures in
     let back = c.highest_core-core.ensures.back in
     let q = symmetric-highest (rows-symmetric i.span e _ (united-sub i.span e b d.reviewed.named t)) c.highest_core-core.ensures in
-    let x = c.count_core.ensures in
-    let found = core-found i e b t (record { order = q.order; members = q.members }) (rw back at x.counted) in
-    rw back (finding-next d.lent d.reviewed c.requires.0 c.requires.1 c.loop-last.invariant c.loop-last-test.true c.count_core.result x.order x.set found)
+    let found = core-found i e b t (record { order = q.order; members = q.members }) (rw back at c.count_core-counts.ensures.counted) in
+    rw back (finding-next d.lent d.reviewed c.requires.0 c.requires.1 c.loop-last.invariant c.loop-last-test.true _ refl refl found)
 
 pub returns : goal.returns
 returns c = finding-end c.loop-last.invariant c.loop-last-test.false
