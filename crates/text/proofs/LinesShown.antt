@@ -1,17 +1,20 @@
 -- Laws of the lines that an answer shows: how many there are, and what each is, by the bytes of the report.
 use mathlib.Core.Path.{◌≡◌, refl, sym, ap, ◌∙◌}
-use mathlib.Core.List.{List, [], ◌∷◌, map}
+use mathlib.Core.List.{List, [], ◌∷◌, ◌++◌, map}
 use Prim.Native.Nat.{ℕ, zero, suc, ◌+◌, ◌-◌, ◌*◌, ◌/◌, ◌^◌, ◌≤◌, ◌<◌}
-use native.Mathlib.Nat.{le_refl, not-suc-le-zero, zero-add, suc-add, mul-zero, mul-suc, mul_assoc, pow-suc, mul-le-mul_left, mul-div-le}
+use native.Mathlib.Nat.{not-suc-le-zero, zero-add, suc-add, mul-zero, mul-suc, mul_assoc, pow-suc, mul-le-mul_left, mul-div-le}
 use native.Mathlib.Omega.{arith}
-use lib.ListN.{length, get_or, take, drop}
+use lib.ListN.{length, get_or, take, drop, replicate}
 use lib.Seq.{take-nil, get_or-drop, drop-drop}
-use lib.Pow.{pow-add, pow_mono}
+use Rattle.std.proofs.Common.{w64}
+use Rattle.std.specs.Int.{from_le_bytes}
 use Rattle.sets.specs.Bytes.{from_little_endian}
-use Rattle.sets.specs.Words.{word_bits, from_words}
+use Rattle.sets.specs.Words.{from_words}
 use Rattle.records.specs.Outcomes.{Outcome, refused, success}
 use Rattle.spans.specs.SpanCores.{SpanCore}
 use Rattle.spans.specs.Encoding.{form_of, core_bytes, record_bytes, head_badges, decode_core, decode_cores}
+use Rattle.logs.specs.Buffers.{place}
+use Rattle.logs.proofs.Delivering.{place-fits, overwrite-front}
 use Rattle.text.specs.Listing.{head_line, group_line, refusal_line, report_lines}
 use Rattle.text.specs.Calls.{shown_lines}
 use Rattle.text.specs.Making.{line_count}
@@ -101,47 +104,19 @@ record-at report at w {high = high} {members = members} l e f g h j k =
     let set : members ≡ from_little_endian (take w (drop (at + 5) report)) = k ∙ rw (h, second) (two-words-said w (drop (at + 5) report) l) in
     rw (e, f, g, set, get_or-drop at report 2 0, get_or-drop at report 3 0, get_or-drop at report 4 0, drop-drop 5 at report)
 
--- A loop over so many bytes, eight at most, the highest first: the number that those from byte i on say.
-word-step : (k j : ℕ) (bytes : List ℕ) → from_little_endian (take (suc k) (drop j bytes)) ≡ from_little_endian (take k (drop (suc j) bytes)) * 256 + get_or bytes j 0
+-- Bytes, eight at most, laid over a word of zeros: the word says the number that they say.
+zeros-after : (xs : List ℕ) → length xs ≤ 8 → from_le_bytes w64 (xs ++ drop (length xs) (replicate 8 0)) ≡ from_little_endian xs
 unfolding from_little_endian
-word-step k zero [] = rw (take-nil {A = ℕ} k)
-word-step k zero (b ∷ bs) = omega arith
-word-step k (suc j) [] = rw (take-nil {A = ℕ} k)
-word-step k (suc j) (b ∷ bs) = word-step k j bs
+zeros-after [] h = omega arith
+zeros-after (a ∷ []) h = omega arith
+zeros-after (a ∷ b ∷ []) h = omega arith
+zeros-after (a ∷ b ∷ c ∷ []) h = omega arith
+zeros-after (a ∷ b ∷ c ∷ d ∷ []) h = omega arith
+zeros-after (a ∷ b ∷ c ∷ d ∷ e ∷ []) h = omega arith
+zeros-after (a ∷ b ∷ c ∷ d ∷ e ∷ f ∷ []) h = omega arith
+zeros-after (a ∷ b ∷ c ∷ d ∷ e ∷ f ∷ g ∷ []) h = omega arith
+zeros-after (a ∷ b ∷ c ∷ d ∷ e ∷ f ∷ g ∷ i ∷ []) h = omega arith
+zeros-after (a ∷ b ∷ c ∷ d ∷ e ∷ f ∷ g ∷ i ∷ j ∷ xs) h = absurd (omega arith)
 
-pub record WordFrom (bytes : List ℕ) (at size i word : ℕ) : Type 0 where
-  pub few : i ≤ size
-  pub room : word < 2 ^ (8 * (size - i))
-  pub says : word ≡ from_little_endian (take (size - i) (drop (at + i) bytes))
-
-module _ {bytes : List ℕ} {at size : ℕ} where
-  pub word_none : WordFrom bytes at size size 0
-  unfolding from_little_endian
-  word_none =
-      let e : size - size ≡ 0 = omega arith in
-      record { few = le_refl size; room = rw e (omega arith); says = rw e }
-
-  module _ {i word b : ℕ} (w : WordFrom bytes at size i word) (l : 1 ≤ i) (c : b < 256) where
-    longer : word * 256 + b < 2 ^ (8 * (size - (i - 1)))
-    longer =
-        let e : 8 * (size - (i - 1)) ≡ 8 * (size - i) + 8 = omega (arith, w.few) in
-        rw (e, pow-add 2 (8 * (size - i)) 8) (omega (arith, w.room))
-
-    -- one byte more, and it fits a word
-    pub word_fits : size ≤ 8 → word * 256 + b < 2 ^ word_bits
-    word_fits h = let e : 8 * (size - (i - 1)) ≤ word_bits = omega arith in omega (arith, longer, pow_mono e)
-
-    pub word_more : b ≡ get_or bytes (at + (i - 1)) 0 → WordFrom bytes at size (i - 1) (word * 256 + b)
-    word_more f =
-        let h : suc (size - i) ≡ size - (i - 1) = omega (arith, w.few) in
-        let j : suc (at + (i - 1)) ≡ at + i = omega arith in
-        let step : from_little_endian (take (size - (i - 1)) (drop (at + (i - 1)) bytes)) ≡ from_little_endian (take (size - i) (drop (at + i) bytes)) * 256 + get_or bytes (at + (i - 1)) 0
-        = rw (h, j) at (word-step (size - i) (at + (i - 1)) bytes) in
-        record { few = omega (arith, w.few); room = longer; says = rw (step, ← f, ← w.says) }
-
-  pub word-done : {i word : ℕ} → WordFrom bytes at size i word → i ≤ 0 → word ≡ from_little_endian (take size (drop at bytes))
-  word-done {i} {word} w h =
-      let z : i ≡ 0 = omega arith in
-      let e : size - i ≡ size = omega arith in
-      let f : at + i ≡ at = omega arith in
-      w.says ∙ rw (e, f)
+pub word-said : (xs : List ℕ) → length xs ≤ 8 → from_le_bytes w64 (place 0 xs (replicate 8 0)) ≡ from_little_endian xs
+word-said xs h = rw (place-fits 0 xs (replicate 8 0) (omega arith), overwrite-front xs (replicate 8 0)) (zeros-after xs h)

@@ -3,15 +3,13 @@ use Rattle.text.proofs.LinesShown.{refusal-shown}
 use Rattle.text.proofs.shown.make_line.Goals as goal
 
 pub report_line-requires : goal.report_line-requires
-report_line-requires c =
-    let p = c.requires in
-    (rw c.in-Ok.is at p.0, p.1)
+report_line-requires c = rw c.in-Ok.is at c.requires
 
 pub returns-in-Err : goal.returns-in-Err
 returns-in-Err c =
     rw (
       c.in-Err.is,
-      refusal-shown _ _ c.args.report.now c.args.i (rw c.in-Err.is at c.requires.0),
+      refusal-shown _ _ c.args.report.now c.args.i (rw c.in-Err.is at c.requires),
       ← c.number.ensures,
       ← c.offset.ensures,
     )
