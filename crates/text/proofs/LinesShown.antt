@@ -2,7 +2,7 @@
 use mathlib.Core.Path.{◌≡◌, refl, sym, ap, ◌∙◌}
 use mathlib.Core.List.{List, [], ◌∷◌, ◌++◌, map}
 use Prim.Native.Nat.{ℕ, zero, suc, ◌+◌, ◌-◌, ◌*◌, ◌/◌, ◌^◌, ◌≤◌, ◌<◌}
-use native.Mathlib.Nat.{not-suc-le-zero, zero-add, suc-add, mul-zero, mul-suc, mul_assoc, pow-suc, mul-le-mul_left, mul-div-le}
+use native.Mathlib.Nat.{not-suc-le-zero, zero-add, suc-add, mul-zero, mul-suc, mul_assoc, pow-suc}
 use native.Mathlib.Omega.{arith}
 use lib.ListN.{length, get_or, take, drop, replicate}
 use lib.Seq.{take-nil, get_or-drop, drop-drop}
@@ -54,27 +54,18 @@ refusal-shown number offset report zero h = refl
 refusal-shown number offset report (suc i) h = absurd (omega arith)
 
 module _ (size : ℕ) (report : List ℕ) {w : ℕ} (same : w ≡ (form_of (head_badges report)).set_bytes) where
-  -- the first line,
+  -- the first line
   pub shown-head : get_or (shown_lines (success size) report) 0 [] ≡ head_line (get_or report 2 0) (get_or report 3 0) ((size - 10) / core_bytes w)
   unfolding shown_lines report_lines
   shown-head = rw (same, decode-length (form_of (head_badges report)).set_bytes ((size - 10) / record_bytes (head_badges report)) (drop 4 report))
 
-  -- that of a record,
+  -- that of a record
   pub shown-record : (i : ℕ) → 1 ≤ i → i < line_count (success size) report → get_or (shown_lines (success size) report) i [] ≡ group_line (decode_core w (drop (4 + core_bytes w * (i - 1)) report))
   unfolding shown_lines report_lines
   shown-record zero l h = absurd (omega arith)
   shown-record (suc i) l h =
       let e : suc i - 1 ≡ i = omega arith in
       rw (same, e) (decode-at group_line (form_of (head_badges report)).set_bytes ((size - 10) / record_bytes (head_badges report)) (drop 4 report) i (omega arith) ∙ ap (λ (bs : List ℕ). group_line (decode_core (form_of (head_badges report)).set_bytes bs)) (drop-drop (record_bytes (head_badges report) * i) 4 report))
-
-  -- and the record is within the report
-  pub record-inside : (i : ℕ) → 1 ≤ i → i < line_count (success size) report → 4 + core_bytes w * (i - 1) + core_bytes w ≤ size
-  record-inside i l h =
-      let r = core_bytes w in
-      let k : i ≤ (size - 10) / r = rw same (omega (arith, h)) in
-      let e : suc (i - 1) ≡ i = omega arith in
-      let m : r * suc (i - 1) ≡ r * i = ap (λ (x : ℕ). r * x) e in
-      omega (arith, l, k, m, mul-suc r (i - 1), mul-le-mul_left r k, mul-div-le (size - 10) r, mul-le-mul_left r l)
 
 -- the number that bytes say, in two parts
 from-split : (v k : ℕ) (xs : List ℕ) → from_little_endian (take (v + k) xs) ≡ from_little_endian (take k (drop v xs)) * 256 ^ v + from_little_endian (take v xs)
@@ -93,10 +84,10 @@ two-words-said w xs h =
     let split : from_little_endian (take w xs) ≡ from_little_endian (take (w - 8) (drop 8 xs)) * 256 ^ 8 + from_little_endian (take 8 xs) = ap (λ (k : ℕ). from_little_endian (take k xs)) e ∙ from-split 8 (w - 8) xs in
     omega (arith, split)
 
--- so the line of the record at a place is known by the bytes of the report
+-- so the record at a place is known by the bytes of the report
 pub record-at : (report : List ℕ) (at w : ℕ) {order first last low high members : ℕ} → 8 ≤ w → order ≡ get_or report (at + 2) 0 → first ≡ get_or report (at + 3) 0 → last ≡ get_or report (at + 4) 0
     → low ≡ from_little_endian (take 8 (drop (at + 5) report)) → high ≡ from_little_endian (take (w - 8) (drop (at + 13) report)) → members ≡ from_words (low ∷ high ∷ [])
-    → group_line (decode_core w (drop at report)) ≡ group_line (record { order = order; first = first; last = last; members = members })
+    → decode_core w (drop at report) ≡ record { order = order; first = first; last = last; members = members }
 unfolding decode_core
 record-at report at w {high = high} {members = members} l e f g h j k =
     let after : at + 5 + 8 ≡ at + 13 = omega arith in

@@ -1,7 +1,10 @@
--- What the functions that make a line promise.
+-- What the contracts of the functions that make a line name.
 use Rattle.std.specs.Prelude.{List, ℕ, suc, ◌+◌, ◌-◌, ◌*◌, ◌/◌}
 use Rattle.records.specs.Outcomes.{Outcome, refused, success}
+use Rattle.sets.specs.Members.{members}
+use Rattle.spans.specs.SpanCores.{SpanCore}
 use Rattle.spans.specs.Encoding.{record_bytes, head_badges}
+use Rattle.text.specs.declared.line.Group.{Group}
 
 -- room for the digits of any number
 abbrev pub digit_room : ℕ
@@ -19,6 +22,10 @@ member_room u = 2 * u + (u - 10) + (u - 100)
 -- fewer where records have 21 bytes
 abbrev pub most_lines : ℕ
 most_lines = 5041
+
+-- the core that a group shows
+abbrev pub core_of : Group → SpanCore
+core_of g = record { order = g.order; first = g.first; last = g.last; members = members g.members }
 
 -- how many lines an answer shows, with the report that it left: one for a refusal, and else one for each record that the size has room for, and the
 -- first

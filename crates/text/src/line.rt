@@ -2,7 +2,7 @@
 ghost use Rattle.std.specs.Prelude.{◌≡◌, ℕ, ◌+◌, ◌≤◌, List, [], ◌++◌, length, take};
 ghost use Rattle.sets.specs.Members.{capacity, members};
 ghost use Rattle.text.specs.Listing.{field, head_line, member_list, group_line, refusal_line};
-ghost use Rattle.text.specs.Making.{digit_room, member_room};
+ghost use Rattle.text.specs.Making.{digit_room, member_room, core_of};
 ghost use Rattle.text.specs.declared.line.TheConstants.{LINE_ROOM};
 
 use itoa::Buffer;
@@ -80,6 +80,15 @@ impl Line {
     }
 }
 
+// A group: its order, its first and last tick, and its members.
+#[derive(Clone, Copy)]
+pub(crate) struct Group {
+    pub(crate) order: u8,
+    pub(crate) first: u8,
+    pub(crate) last: u8,
+    pub(crate) members: BadgeSet,
+}
+
 // The first line of a report.
 pub(crate) fn head_line(badges: u8, ticks: u8, groups: usize) -> Line
     ensures { result ≡ head_line badges ticks groups }
@@ -93,15 +102,15 @@ pub(crate) fn head_line(badges: u8, ticks: u8, groups: usize) -> Line
 }
 
 // The line of a group.
-pub(crate) fn group_line(order: u8, first: u8, last: u8, set: BadgeSet) -> Line
-    ensures { result ≡ group_line (record { order = order; first = first; last = last; members = members set }) }
+pub(crate) fn group_line(group: Group) -> Line
+    ensures { result ≡ group_line (core_of group) }
 {
     let mut line = Line::new();
-    line.append_field(b"order ", usize::from(order));
-    line.append_field(b" ticks ", usize::from(first));
-    line.append_field(b" to ", usize::from(last));
+    line.append_field(b"order ", usize::from(group.order));
+    line.append_field(b" ticks ", usize::from(group.first));
+    line.append_field(b" to ", usize::from(group.last));
     line.append(b" badges");
-    line.append_members(set);
+    line.append_members(group.members);
     line.append(b"\n");
     line
 }

@@ -1,14 +1,12 @@
 // The lines that an answer shows, by their place.
 ghost use Rattle.std.specs.Prelude.{◌≡◌, [], ◌+◌, ◌-◌, ◌/◌, ◌^◌, ◌≤◌, ◌<◌, length, get_or, take, drop};
 ghost use Rattle.sets.specs.Bytes.{from_little_endian};
-ghost use Rattle.records.specs.Outcomes.{success};
 ghost use Rattle.spans.specs.Encoding.{form_of, core_bytes, head_badges, decode_core};
 ghost use Rattle.groups.specs.Refusals.{written_outcome};
-ghost use Rattle.text.specs.Listing.{group_line};
 ghost use Rattle.text.specs.Calls.{shown_lines};
-ghost use Rattle.text.specs.Making.{line_count};
+ghost use Rattle.text.specs.Making.{core_of, line_count};
 
-use crate::line::{Line, group_line, head_line, refusal_line};
+use crate::line::{Group, Line, group_line, head_line, refusal_line};
 use groups::{Reason, Refusal, set_bytes};
 use logs::put;
 use sets::BadgeSet;
@@ -57,18 +55,20 @@ fn width_of(report: &[u8]) -> usize
     set_bytes(usize::from(byte_at(report, 2)))
 }
 
-// The line of the group whose record, with a set of so many bytes, stands at a place of a report: its first 8 bytes say the lower word of the set, and
-// those that follow, if there are any, the upper one.
-fn record_line(report: &[u8], at: usize, width: usize) -> Line
+// The group whose record, with a set of so many bytes, stands at a place of a report: its first 8 bytes say the lower word of the set, and those that
+// follow, if there are any, the upper one.
+fn group_at(report: &[u8], at: usize, width: usize) -> Group
     requires { (8 ≤ width) × (width ≤ 16) × (at + core_bytes width < 2 ^ 64) }
-    ensures { result ≡ group_line (decode_core width (drop at report.now)) }
+    ensures { core_of result ≡ decode_core width (drop at report.now) }
 {
-    let order = byte_at(report, at + 2);
-    let first = byte_at(report, at + 3);
-    let last = byte_at(report, at + 4);
     let low = word_at(report, at + CORE_HEAD_BYTES, WORD_BYTES);
     let high = word_at(report, at + CORE_BYTES, width - WORD_BYTES);
-    group_line(order, first, last, BadgeSet::from_words(low, high))
+    Group {
+        order: byte_at(report, at + 2),
+        first: byte_at(report, at + 3),
+        last: byte_at(report, at + 4),
+        members: BadgeSet::from_words(low, high),
+    }
 }
 
 // How many records, with sets of so many bytes, a report of so many bytes has.
@@ -89,30 +89,21 @@ pub(crate) fn line_count(answer: Result<usize, Refusal>, report: &[u8]) -> usize
     }
 }
 
-// A line of a report of so many bytes: the first, or that of a record.
-fn report_line(size: usize, report: &[u8], i: usize) -> Line
-    requires { i < line_count (success size) report.now }
-    ensures { result ≡ get_or (shown_lines (success size) report.now) i [] }
-{
-    let width = width_of(report);
-    if i == 0 {
-        return head_line(
-            byte_at(report, 2),
-            byte_at(report, 3),
-            record_count(size, width),
-        );
-    }
-    let at = HEADER_BYTES + (CORE_HEAD_BYTES + width) * (i - 1);
-    record_line(report, at, width)
-}
-
-// The line at a place, of those that an answer shows.
+// The line at a place, of those that an answer shows: that of a refusal, or the first of a report, or that of a record.
 pub(crate) fn make_line(answer: Result<usize, Refusal>, report: &[u8], i: usize) -> Line
     requires { i < line_count (written_outcome answer) report.now }
     ensures { result ≡ get_or (shown_lines (written_outcome answer) report.now) i [] }
 {
+    let width = width_of(report);
     match answer {
         Err(refusal) => refusal_line(refusal.number(), refusal.offset()),
-        Ok(size) => report_line(size, report, i),
+        Ok(size) if i == 0 => {
+            let groups = record_count(size, width);
+            head_line(byte_at(report, 2), byte_at(report, 3), groups)
+        }
+        Ok(_) => {
+            let at = HEADER_BYTES + (CORE_HEAD_BYTES + width) * (i - 1);
+            group_line(group_at(report, at, width))
+        }
     }
 }
