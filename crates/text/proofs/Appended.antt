@@ -1,83 +1,95 @@
--- Laws of bytes that are appended to a line, one part after the other.
-use mathlib.Core.Path.{◌≡◌, refl, sym, ap, ◌∙◌, subst}
+-- Laws of what is appended to a line: a label with a number, and the members of a set.
+use mathlib.Core.Path.{◌≡◌, refl, sym, ap, ◌∙◌}
 use mathlib.Core.Bool.{Bool, true, false}
 use mathlib.Core.List.{List, [], ◌++◌, append_assoc, append-nil}
-use Prim.Native.Nat.{ℕ, suc, ◌+◌, ◌-◌, ◌^◌, ◌≤◌, ◌<◌}
 use mathlib.Core.Logic.{by_cases}
-use native.Mathlib.Numerals.{add-one}
-use native.Mathlib.Decide.{dec_lt}
+use Prim.Native.Nat.{ℕ, zero, suc, ◌+◌, ◌^◌, ◌≤◌, ◌<◌}
+use native.Mathlib.Nat.{le_refl}
+use native.Mathlib.Decide.{ℕ_discrete, dec_lt}
 use native.Mathlib.Omega.{arith}
-use lib.ListN.{length, take, drop, length-append, length-drop}
-use lib.Seq.{take_all}
+use lib.ListN.{length, length-append}
+use borrow.Author.Tests.{ne_eqb}
+use Rattle.std.specs.Prelude.{Some, None}
+use Rattle.std.specs.Fmt.{decimal as printed}
 use Rattle.sets.specs.Ascii.{ascii}
-use Rattle.sets.specs.Sets.{has}
+use Rattle.sets.specs.Sets.{bit, has, In, difference, only, smallest, TakesSmallest}
 use Rattle.sets.specs.Members.{capacity}
 use Rattle.sets.specs.Tables.{concat_below, keep_if}
-use Rattle.logs.specs.Buffers.{place}
-use Rattle.logs.proofs.Delivering.{take-place, length-place}
+use Rattle.sets.proofs.Sets.{has-test, not-in-none, in-difference, of-difference, in-only, of-only}
+use Rattle.sets.proofs.Smallest.{smallest-first, smallest-member}
 use Rattle.text.specs.Decimal.{decimal}
 use Rattle.text.specs.Listing.{field, member_list}
-use Rattle.text.specs.Making.{line_room, digit_room, member_room, Spells, Appends, Makes}
-use Rattle.text.proofs.Digits.{decimal-short}
-
--- nothing is appended
-pub appends-none : {at : ℕ} {line : List ℕ} → Appends [] at at line line
-appends-none = record { end = omega arith; size = refl; front = sym (append-nil _) }
-
--- one part after another
-pub appends-then : {xs ys : List ℕ} {i j k : ℕ} {x y z : List ℕ} → Appends xs i j x y → Appends ys j k y z → Appends (xs ++ ys) i k x z
-appends-then {xs} {ys} {i} {j} {k} {x} {y} {z} e f = record {
-  end = omega (arith, e.end, f.end, length-append xs ys);
-  size = f.size ∙ e.size;
-  front = f.front ∙ ap (λ (s : List ℕ). s ++ ys) e.front ∙ append_assoc (take i x) xs ys;
-}
-
--- bytes that are put into a line which holds them
-pub appends-put : (bytes : List ℕ) {at at' : ℕ} {line line' : List ℕ} → at + length bytes ≤ length line → at' ≡ at + length bytes → line' ≡ place at bytes line → Appends bytes at at' line line'
-appends-put bytes {at} {at'} {line} {line'} h e f = record {
-  end = e;
-  size = ap length f ∙ length-place at bytes line h;
-  front = rw (e, f) (take-place at bytes line h);
-}
-
--- a line that starts with nothing and is appended to
-pub makes : {bytes : List ℕ} {count : ℕ} {line line' : List ℕ} → length line ≡ line_room → count ≤ line_room → Appends bytes 0 count line line' → Makes bytes count line'
-makes e h a = record { size = a.size ∙ e; inside = h; front = a.front }
+use Rattle.text.specs.Making.{member_room}
+use Rattle.text.proofs.Digits.{decimal-short, decimal-printed}
 
 -- the length of a label with a number below 10 ^ k
 pub field-length : (label : List ℕ) (k n : ℕ) → n < 10 ^ suc k → length (field label n) ≤ length label + suc k
 unfolding field
 field-length label k n h = omega (arith, length-append label (decimal n), decimal-short k n h)
 
--- a loop's turn: the next part
-pub appends-more : (f : ℕ → List ℕ) (m : ℕ) {i j k : ℕ} {x y z : List ℕ} → Appends (concat_below m f) i j x y → Appends (f m) j k y z → Appends (concat_below (m + 1) f) i k x z
+-- a label, and a number as std prints it
+pub field-printed : (old label : List ℕ) (n : ℕ) → n < 2 ^ 64 → (old ++ label) ++ printed n ≡ old ++ field label n
+unfolding field
+field-printed old label n h = rw (decimal-printed n h) (append_assoc old label (decimal n))
+
+-- The members of a set, by badges: what stands in the list for one.
+abbrev pub member_part : ℕ → ℕ → List ℕ
+member_part s u = keep_if (has s u) (field (ascii " ") u)
+
+part-in : (s u : ℕ) → In s u → member_part s u ≡ field (ascii " ") u
+unfolding keep_if
+part-in s u i = rw (has-test s u i)
+
+part-out : (s u : ℕ) → (In s u → ⊥) → member_part s u ≡ []
+unfolding keep_if
+part-out s u f = rw (ne_eqb (bit s u) 1 f)
+
+part-same : (s t u : ℕ) → (In s u → In t u) → (In t u → In s u) → member_part s u ≡ member_part t u
+part-same s t u h k =
+    by_cases (ℕ_discrete (bit s u) 1)
+    (λ i. part-in s u i ∙ sym (part-in t u (h i)))
+    (λ f. part-out s u f ∙ sym (part-out t u (λ j. f (k j))))
+
+-- none below m, and then nothing is listed
+none-below : (s m : ℕ) → ((v : ℕ) → v < m → In s v → ⊥) → concat_below m (member_part s) ≡ []
 unfolding concat_below
-appends-more f m e g = rw add-one (appends-then e g)
+none-below s zero f = refl
+none-below s (suc m) f = rw (none-below s m (λ v l. f v (omega arith)), part-out s m (f m (omega arith)))
 
--- a label, and the digits of a number after it
-pub appends-field : {label digits : List ℕ} {n start i j k : ℕ} {x y z : List ℕ} → Appends label i j x y → Spells n start digits
-    → Appends (take (digit_room - start) (drop start digits)) j k y z → Appends (field label n) i k x z
-unfolding field
-appends-field {label} {digits} {n} {start} {i} {j} {k} {x} {y} {z} e s f =
-    let whole : take (digit_room - start) (drop start digits) ≡ decimal n = take_all (digit_room - start) (drop start digits) (omega (arith, length-drop start digits, s.size)) ∙ s.bytes in
-    appends-then e (rw whole at f)
+-- the member below m that no other precedes is listed first
+first-below : (s u m : ℕ) → In s u → u < m → ((v : ℕ) → v < m → In s v → u ≤ v)
+    → concat_below m (member_part s) ≡ field (ascii " ") u ++ concat_below m (member_part (difference s (only u)))
+unfolding concat_below
+first-below s u zero i l f = absurd (omega arith)
+first-below s u (suc m) i l f =
+    by_cases (ℕ_discrete m u)
+    (λ e. rw (
+      none-below s m (λ v k j. omega (arith, f v (omega arith) j)),
+      none-below (difference s (only u)) m (λ v k j. omega (arith, f v (omega arith) (of-difference s (only u) v j).0)),
+      part-out (difference s (only u)) m (λ j. (of-difference s (only u) m j).1 (rw e (in-only u))),
+      e,
+      part-in s u i,
+    )
+    (sym (append-nil (field (ascii " ") u))))
+    (λ d. rw (
+      first-below s u m i (omega arith) (λ v k j. f v (omega arith) j),
+      part-same s (difference s (only u)) m (λ j. in-difference s (only u) m j (λ o. d (of-only u m o))) (λ j. (of-difference s (only u) m j).0),
+    )
+    (append_assoc (field (ascii " ") u) (concat_below m (member_part (difference s (only u)))) (member_part (difference s (only u)) m)))
 
--- its length is no more than the label's and 20
-pub field_room : (label : List ℕ) (n : ℕ) {start : ℕ} {digits : List ℕ} → Spells n start digits → length (field label n) ≤ length label + digit_room
-unfolding field
-field_room label n {start} {digits} s = omega (arith, length-append label (decimal n), ap length s.bytes, length-drop start digits, s.size)
+-- A walk over the members of a set that takes the smallest each time lists them in turn, and then none.
+pub member-next : {s u rest : ℕ} → s < 2 ^ capacity → TakesSmallest capacity s (Some u) rest → member_list s ≡ field (ascii " ") u ++ member_list rest
+unfolding member_list
+member-next {s} {u} {rest} h t =
+    let m = smallest-member capacity s h (λ e. omega arith) in
+    rw (t.2, t.1) (first-below s (smallest capacity s) capacity m.0 m.1 (λ v l i. smallest-first capacity s v i l))
 
--- a badge that is no member, and one that is
-pub member-none : (b : Bool) (bytes : List ℕ) {at : ℕ} {line : List ℕ} → b ≡ false → Appends (keep_if b bytes) at at line line
-unfolding keep_if
-member-none b bytes e = rw e appends-none
-
-pub member-one : (b : Bool) {bytes : List ℕ} {i j : ℕ} {x y : List ℕ} → b ≡ true → Appends bytes i j x y → Appends (keep_if b bytes) i j x y
-unfolding keep_if
-member-one b e a = rw e a
+pub member-end : {s rest : ℕ} → TakesSmallest capacity s None rest → member_list s ≡ []
+unfolding member_list
+member-end {s} t = none-below s capacity (λ v l i. not-in-none v (rw t.0 at i))
 
 -- there is room for one badge more, after a space
-pub member-length : (b : Bool) (u : ℕ) → u < capacity → member_room u + length (keep_if b (field (ascii " ") u)) ≤ member_room (u + 1)
+member-length : (b : Bool) (u : ℕ) → u < capacity → member_room u + length (keep_if b (field (ascii " ") u)) ≤ member_room (u + 1)
 unfolding keep_if
 member-length true u h = by_cases (dec_lt u 10)
     (λ l. omega (arith, field-length (ascii " ") 0 u (omega arith)))
@@ -86,27 +98,17 @@ member-length true u h = by_cases (dec_lt u 10)
     (λ m. omega (arith, field-length (ascii " ") 2 u (omega arith))))
 member-length false u h = omega arith
 
--- A loop that appends the members of a set: those below u are appended, and there is room for them.
-abbrev pub member_part : ℕ → ℕ → List ℕ
-member_part s u = keep_if (has s u) (field (ascii " ") u)
+members-length : (s m : ℕ) → m ≤ capacity → length (concat_below m (member_part s)) ≤ member_room m
+unfolding concat_below
+members-length s zero h = omega arith
+members-length s (suc m) h =
+    omega (arith, members-length s m (omega arith), length-append (concat_below m (member_part s)) (member_part s m), member-length (has s m) m (omega arith))
 
-pub record MembersBelow (s u at at' : ℕ) (line line' : List ℕ) : Type 0 where
-  pub few : u ≤ capacity
-  pub short : at' ≤ at + member_room u
-  pub appended : Appends (concat_below u (member_part s)) at at' line line'
+pub member-list-length : (s : ℕ) → length (member_list s) ≤ member_room capacity
+unfolding member_list
+member-list-length s = members-length s capacity (le_refl capacity)
 
-module _ (s : ℕ) {at : ℕ} {line : List ℕ} where
-  pub members-none : MembersBelow s 0 at at line line
-  unfolding concat_below
-  members-none = record { few = omega arith; short = omega arith; appended = appends-none }
-
-  pub members-more : {u i j : ℕ} {x y : List ℕ} → u < capacity → MembersBelow s u at i line x → Appends (member_part s u) i j x y → MembersBelow s (u + 1) at j line y
-  members-more {u} {i} {j} {x} {y} h m a = record {
-    few = omega arith;
-    short = omega (arith, m.short, a.end, member-length (has s u) u h);
-    appended = appends-more (member_part s) u m.appended a;
-  }
-
-  pub members-done : {u i : ℕ} {x : List ℕ} → capacity ≤ u → MembersBelow s u at i line x → Appends (member_list s) at i line x
-  unfolding member_list
-  members-done {u} {i} {x} h m = let e : u ≡ capacity = omega (arith, m.few) in subst (λ (v : ℕ). Appends (concat_below v (member_part s)) at i line x) e m.appended
+-- so there is room for all of them, while some are listed and the others are still to come
+pub listed_room : (old line : List ℕ) (s left : ℕ) → line ++ member_list left ≡ old ++ member_list s → length line ≤ length old + member_room capacity
+listed_room old line s left e =
+    omega (arith, ap length e, length-append line (member_list left), length-append old (member_list s), member-list-length s)

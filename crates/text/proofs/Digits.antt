@@ -1,15 +1,15 @@
--- Laws of decimal digits: a number of one digit, one digit more, how many digits a number has, and the loop that puts them into memory.
-use mathlib.Core.Path.{◌≡◌, refl, sym, ap, ◌∙◌, subst}
+-- Laws of decimal digits: a number of one digit, one digit more, how many digits a number has, and that std prints the same.
+use mathlib.Core.Path.{◌≡◌, refl, sym, ap, ◌∙◌}
 use mathlib.Core.Bool.{Bool, true, false}
-use mathlib.Core.List.{List, [], ◌∷◌, ◌++◌, append-nil}
-use Prim.Native.Nat.{ℕ, zero, suc, ◌-◌, ◌/◌, ◌%◌, ◌^◌, ◌≤◌, ◌<◌}
+use mathlib.Core.List.{List, [], ◌∷◌, ◌++◌}
+use Prim.Native.Nat.{ℕ, zero, suc, ◌/◌, ◌%◌, ◌^◌, ◌≤◌, ◌<◌}
 use native.Mathlib.Omega.{arith}
 use lib.Dec.{ltb}
-use lib.ListN.{length, set, take, drop, length-append, length-set}
-use lib.Seq.{length-take-le, drop-length, append_snoc, set_split, drop_at}
+use lib.ListN.{length, length-append}
 use borrow.Author.Tests.{lt-ltb, le-ltb, ltb-true, ltb-false}
+use Rattle.std.specs.Fmt.{decimal as printed}
+use Rattle.std.proofs.lemmas.Fmt.{decimal_by_steps}
 use Rattle.text.specs.Decimal.{digit, decimal_in, decimal}
-use Rattle.text.specs.Making.{digit_room, Spells}
 
 -- the digits by whether there is one or more
 in_one : (most n : ℕ) → n < 10 → decimal_in (suc most) n ≡ digit n ∷ []
@@ -47,57 +47,9 @@ decimal-short (suc k) n h = go (ltb n 10) refl (decimal-short k (n / 10))
     go true e ih = rw (decimal-one n (ltb-true n 10 e)) (omega arith)
     go false e ih = rw (decimal-more n (ltb-false n 10 e)) (omega (arith, length-append (decimal (n / 10)) (digit (n % 10) ∷ []), ih (omega arith)))
 
--- where more than one digit is left of a number below 10 ^ k, k is above 1, and the rest is below 10 ^ (k - 1)
-pub places-left : (k n : ℕ) → 10 ≤ n → n < 10 ^ k → (2 ≤ k) × (n / 10 < 10 ^ (k - 1))
-places-left zero n l h = absurd (omega arith)
-places-left (suc zero) n l h = absurd (omega arith)
-places-left (suc (suc k)) n l h = let e : suc (suc k) - 1 ≡ suc k = omega arith in (omega arith, rw e (omega arith))
-
--- A loop that puts the digits of n at the end of a list: the digits from a place on are put, and a rest of the number is left.
-pub record Spelling (n rest start : ℕ) (digits : List ℕ) : Type 0 where
-  pub size : length digits ≡ digit_room
-  pub some : 1 ≤ start
-  pub inside : start ≤ digit_room
-  pub left : rest < 10 ^ start
-  pub spelt : decimal n ≡ decimal rest ++ drop start digits
-
-drop-set : (l : List ℕ) (i x : ℕ) → i < length l → drop i (set l i x) ≡ x ∷ drop (suc i) l
-drop-set l i x h = rw (set_split l i x h) (drop_at (take i l) (x ∷ drop (suc i) l) i (length-take-le i l (omega arith)))
-
-module _ {n : ℕ} {digits : List ℕ} where
-  pub spelling-none : length digits ≡ digit_room → n < 2 ^ 64 → Spelling n n digit_room digits
-  spelling-none e h = record {
-    size = e;
-    some = omega arith;
-    inside = omega arith;
-    left = omega arith;
-    spelt = let d : drop digit_room digits ≡ [] = subst (λ (k : ℕ). drop k digits ≡ []) e (drop-length digits) in sym (rw d (append-nil (decimal n)));
-  }
-
-  module _ {rest start : ℕ} (s : Spelling n rest start digits) where
-    -- the list with one digit more in front, where the digits of the number are those of a rest, this digit, and those put before
-    digit-put : (d : ℕ) (rests : List ℕ) → decimal rest ≡ rests ++ d ∷ [] → decimal n ≡ rests ++ drop (start - 1) (set digits (start - 1) d)
-    digit-put d rests e =
-        let next : suc (start - 1) ≡ start = omega (arith, s.some) in
-        let put : drop (start - 1) (set digits (start - 1) d) ≡ d ∷ drop start digits = rw (drop-set digits (start - 1) d (omega (arith, s.size, s.inside, s.some)), next) in
-        rw put (s.spelt ∙ ap (λ (x : List ℕ). x ++ drop start digits) e ∙ append_snoc rests d (drop start digits))
-
-    -- one digit more
-    pub spelling-more : 10 ≤ rest → Spelling n (rest / 10) (start - 1) (set digits (start - 1) (digit (rest % 10)))
-    spelling-more h =
-        let p = places-left start rest h s.left in
-        record {
-          size = length-set digits (start - 1) (digit (rest % 10)) ∙ s.size;
-          some = omega (arith, p.0);
-          inside = omega (arith, s.inside);
-          left = p.1;
-          spelt = digit-put (digit (rest % 10)) (decimal (rest / 10)) (decimal-more rest h);
-        }
-
-    -- the last digit
-    pub spelling-done : rest < 10 → Spells n (start - 1) (set digits (start - 1) (digit rest))
-    spelling-done h = record {
-      size = length-set digits (start - 1) (digit rest) ∙ s.size;
-      inside = omega (arith, s.inside, s.some);
-      bytes = sym (digit-put (digit rest) [] (decimal-one rest h));
-    }
+-- std prints the same digits
+pub decimal-printed : (n : ℕ) → n < 2 ^ 64 → printed n ≡ decimal n
+decimal-printed n h = decimal_by_steps (λ (k : ℕ) (ds : List ℕ). ds ≡ decimal k)
+    (λ k l. sym (decimal-one k l))
+    (λ k ds l e. ap (λ (x : List ℕ). x ++ digit (k % 10) ∷ []) e ∙ sym (decimal-more k l))
+    n h

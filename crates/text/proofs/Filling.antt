@@ -13,7 +13,6 @@ use Rattle.logs.specs.Buffers.{place}
 use Rattle.logs.proofs.Delivering.{take-place, length-place, drop-place}
 use Rattle.text.specs.Listing.{joined}
 use Rattle.text.specs.Pieces.{lines_in, bytes_in, piece_of}
-use Rattle.text.specs.Making.{Makes}
 
 -- Lines from one place up to another stand at the start of a buffer, and as many as fit behind them are still to come.
 pub record Fills (ls : List (List ℕ)) (from next at : ℕ) (buffer buffer' : List ℕ) : Type 0 where
@@ -56,40 +55,32 @@ bytes-none : (room : ℕ) (ls : List (List ℕ)) → lines_in room ls ≡ 0 → 
 unfolding bytes_in joined
 bytes-none room ls z = rw z
 
--- a line that was made is as long as it says
-pub made-length : {bytes line : List ℕ} {count : ℕ} → Makes bytes count line → length bytes ≡ count
-made-length {bytes} {line} {count} m = ap length (sym m.front) ∙ length-take-le count line (omega (arith, m.inside, m.size))
-
 module _ {ls : List (List ℕ)} {from : ℕ} {buffer : List ℕ} where
   pub fills-none : Fills ls from from 0 buffer buffer
   fills-none = let e : length buffer - 0 ≡ length buffer = omega arith in record { size = refl; inside = omega arith; lines = rw e; bytes = rw e; rest = refl }
 
   module _ {next at : ℕ} {buffer' : List ℕ} (f : Fills ls from next at buffer buffer') where
     -- a line more
-    pub fills-more : {line : List ℕ} {size : ℕ} {buffer'' : List ℕ} → next < length ls → Makes (get_or ls next []) size line → size ≤ length buffer' - at → buffer'' ≡ place at (take size line) buffer'
-        → Fills ls from (next + 1) (at + size) buffer buffer''
-    fills-more {line} {size} {buffer''} h m k e =
-        let l = get_or ls next [] in
+    pub fills-more : {l : List ℕ} {buffer'' : List ℕ} → next < length ls → l ≡ get_or ls next [] → length l ≤ length buffer' - at → buffer'' ≡ place at l buffer'
+        → Fills ls from (next + 1) (at + length l) buffer buffer''
+    fills-more {l} {buffer''} h m k put =
         let rests = drop (suc next) ls in
-        let long : length l ≡ size = made-length m in
-        let cons : drop next ls ≡ l ∷ rests = drop-cons ls next [] h in
-        let put : buffer'' ≡ place at l buffer' = rw (← m.front) e in
+        let cons : drop next ls ≡ l ∷ rests = drop-cons ls next [] h ∙ ap (λ (x : List ℕ). x ∷ rests) (sym m) in
         let here : at + length l ≤ length buffer' = omega (arith, f.size, f.inside) in
         let room : length l ≤ length buffer - at = omega (arith, f.size) in
-        let less : length buffer - at - length l ≡ length buffer - (at + size) = omega arith in
-        let there : at + length l ≡ at + size = omega arith in
-        let front : take (at + size) buffer'' ≡ take at buffer' ++ l = rw (← there, put) (take-place at l buffer' here) in
+        let less : length buffer - at - length l ≡ length buffer - (at + length l) = omega arith in
+        let front : take (at + length l) buffer'' ≡ take at buffer' ++ l = rw put (take-place at l buffer' here) in
         record {
           size = ap length put ∙ length-place at l buffer' here ∙ f.size;
           inside = omega (arith, f.size, f.inside);
           lines = f.lines ∙ rw (cons, lines_more l rests room, less, add-one) (omega arith);
-          bytes = f.bytes ∙ rw (cons, bytes-more l rests room, less, front, add-one) (sym (append_assoc (take at buffer') l (bytes_in (length buffer - (at + size)) rests)));
-          rest = rw (put, ← there, drop-place at l buffer' here) (sym (drop-drop (length l) at buffer') ∙ ap (drop (length l)) f.rest ∙ drop-drop (length l) at buffer);
+          bytes = f.bytes ∙ rw (cons, bytes-more l rests room, less, front, add-one) (sym (append_assoc (take at buffer') l (bytes_in (length buffer - (at + length l)) rests)));
+          rest = rw (put, drop-place at l buffer' here) (sym (drop-drop (length l) at buffer') ∙ ap (drop (length l)) f.rest ∙ drop-drop (length l) at buffer);
         }
 
     -- no line more: the next does not fit, or there is none
-    pub full-stop : {line : List ℕ} {size : ℕ} → next < length ls → Makes (get_or ls next []) size line → length buffer' - at < size → lines_in (length buffer - at) (drop next ls) ≡ 0
-    full-stop h m k = rw (drop-cons ls next [] h) (lines-stop (get_or ls next []) (drop (suc next) ls) (omega (arith, made-length m, f.size)))
+    pub full-stop : {l : List ℕ} → next < length ls → l ≡ get_or ls next [] → length buffer' - at < length l → lines_in (length buffer - at) (drop next ls) ≡ 0
+    full-stop {l} h m k = rw (drop-cons ls next [] h, ← m) (lines-stop l (drop (suc next) ls) (omega (arith, f.size)))
 
     pub end-stop : length ls ≤ next → lines_in (length buffer - at) (drop next ls) ≡ 0
     unfolding lines_in

@@ -1,27 +1,13 @@
 -- No line of a listing has more than 434 bytes.
 use mathlib.Core.List.{◌++◌}
-use Prim.Native.Nat.{ℕ, zero, suc, ◌≤◌, ◌<◌}
-use native.Mathlib.Nat.{le_refl}
+use Prim.Native.Nat.{ℕ, ◌≤◌, ◌<◌}
 use native.Mathlib.Omega.{arith}
 use lib.ListN.{length, length-append}
 use Rattle.sets.specs.Ascii.{ascii}
-use Rattle.sets.specs.Sets.{has}
-use Rattle.sets.specs.Members.{capacity}
-use Rattle.sets.specs.Tables.{concat_below}
 use Rattle.spans.specs.SpanCores.{SpanCore}
 use Rattle.text.specs.Listing.{newline, field, head_line, member_list, group_line, refusal_line}
-use Rattle.text.specs.Making.{longest_line, member_room}
-use Rattle.text.proofs.Appended.{field-length, member_part, member-length}
-
-members-length : (s m : ℕ) → m ≤ capacity → length (concat_below m (member_part s)) ≤ member_room m
-unfolding concat_below
-members-length s zero h = omega arith
-members-length s (suc m) h =
-    omega (arith, members-length s m (omega arith), length-append (concat_below m (member_part s)) (member_part s m), member-length (has s m) m (omega arith))
-
-member-list-length : (s : ℕ) → length (member_list s) ≤ member_room capacity
-unfolding member_list
-member-list-length s = members-length s capacity (le_refl capacity)
+use Rattle.text.specs.Making.{longest_line}
+use Rattle.text.proofs.Appended.{field-length, member-list-length}
 
 pub refusal-short : (number offset : ℕ) → number < 10 → offset < 1000000 → length (refusal_line number offset) ≤ longest_line
 unfolding refusal_line

@@ -1,17 +1,20 @@
 -- Laws of the lines that an answer shows: how many there are, and what each is, by the bytes of the report.
 use mathlib.Core.Path.{◌≡◌, refl, sym, ap, ◌∙◌}
-use mathlib.Core.List.{List, [], ◌∷◌, map}
+use mathlib.Core.List.{List, [], ◌∷◌, ◌++◌, map}
 use Prim.Native.Nat.{ℕ, zero, suc, ◌+◌, ◌-◌, ◌*◌, ◌/◌, ◌^◌, ◌≤◌, ◌<◌}
-use native.Mathlib.Nat.{le_refl, not-suc-le-zero, zero-add, suc-add, mul-zero, mul-suc, mul_assoc, pow-suc, mul-le-mul_left, mul-div-le}
+use native.Mathlib.Nat.{not-suc-le-zero, zero-add, suc-add, mul-zero, mul-suc, mul_assoc, pow-suc}
 use native.Mathlib.Omega.{arith}
-use lib.ListN.{length, get_or, take, drop}
+use lib.ListN.{length, get_or, take, drop, replicate}
 use lib.Seq.{take-nil, get_or-drop, drop-drop}
-use lib.Pow.{pow-add, pow_mono}
+use Rattle.std.proofs.Common.{w64}
+use Rattle.std.specs.Int.{from_le_bytes}
 use Rattle.sets.specs.Bytes.{from_little_endian}
-use Rattle.sets.specs.Words.{word_bits, from_words}
+use Rattle.sets.specs.Words.{from_words}
 use Rattle.records.specs.Outcomes.{Outcome, refused, success}
 use Rattle.spans.specs.SpanCores.{SpanCore}
 use Rattle.spans.specs.Encoding.{form_of, core_bytes, record_bytes, head_badges, decode_core, decode_cores}
+use Rattle.logs.specs.Buffers.{place}
+use Rattle.logs.proofs.Delivering.{place-fits, overwrite-front}
 use Rattle.text.specs.Listing.{head_line, group_line, refusal_line, report_lines}
 use Rattle.text.specs.Calls.{shown_lines}
 use Rattle.text.specs.Making.{line_count}
@@ -51,27 +54,18 @@ refusal-shown number offset report zero h = refl
 refusal-shown number offset report (suc i) h = absurd (omega arith)
 
 module _ (size : ℕ) (report : List ℕ) {w : ℕ} (same : w ≡ (form_of (head_badges report)).set_bytes) where
-  -- the first line,
+  -- the first line
   pub shown-head : get_or (shown_lines (success size) report) 0 [] ≡ head_line (get_or report 2 0) (get_or report 3 0) ((size - 10) / core_bytes w)
   unfolding shown_lines report_lines
   shown-head = rw (same, decode-length (form_of (head_badges report)).set_bytes ((size - 10) / record_bytes (head_badges report)) (drop 4 report))
 
-  -- that of a record,
+  -- that of a record
   pub shown-record : (i : ℕ) → 1 ≤ i → i < line_count (success size) report → get_or (shown_lines (success size) report) i [] ≡ group_line (decode_core w (drop (4 + core_bytes w * (i - 1)) report))
   unfolding shown_lines report_lines
   shown-record zero l h = absurd (omega arith)
   shown-record (suc i) l h =
       let e : suc i - 1 ≡ i = omega arith in
       rw (same, e) (decode-at group_line (form_of (head_badges report)).set_bytes ((size - 10) / record_bytes (head_badges report)) (drop 4 report) i (omega arith) ∙ ap (λ (bs : List ℕ). group_line (decode_core (form_of (head_badges report)).set_bytes bs)) (drop-drop (record_bytes (head_badges report) * i) 4 report))
-
-  -- and the record is within the report
-  pub record-inside : (i : ℕ) → 1 ≤ i → i < line_count (success size) report → 4 + core_bytes w * (i - 1) + core_bytes w ≤ size
-  record-inside i l h =
-      let r = core_bytes w in
-      let k : i ≤ (size - 10) / r = rw same (omega (arith, h)) in
-      let e : suc (i - 1) ≡ i = omega arith in
-      let m : r * suc (i - 1) ≡ r * i = ap (λ (x : ℕ). r * x) e in
-      omega (arith, l, k, m, mul-suc r (i - 1), mul-le-mul_left r k, mul-div-le (size - 10) r, mul-le-mul_left r l)
 
 -- the number that bytes say, in two parts
 from-split : (v k : ℕ) (xs : List ℕ) → from_little_endian (take (v + k) xs) ≡ from_little_endian (take k (drop v xs)) * 256 ^ v + from_little_endian (take v xs)
@@ -90,10 +84,10 @@ two-words-said w xs h =
     let split : from_little_endian (take w xs) ≡ from_little_endian (take (w - 8) (drop 8 xs)) * 256 ^ 8 + from_little_endian (take 8 xs) = ap (λ (k : ℕ). from_little_endian (take k xs)) e ∙ from-split 8 (w - 8) xs in
     omega (arith, split)
 
--- so the line of the record at a place is known by the bytes of the report
+-- so the record at a place is known by the bytes of the report
 pub record-at : (report : List ℕ) (at w : ℕ) {order first last low high members : ℕ} → 8 ≤ w → order ≡ get_or report (at + 2) 0 → first ≡ get_or report (at + 3) 0 → last ≡ get_or report (at + 4) 0
     → low ≡ from_little_endian (take 8 (drop (at + 5) report)) → high ≡ from_little_endian (take (w - 8) (drop (at + 13) report)) → members ≡ from_words (low ∷ high ∷ [])
-    → group_line (decode_core w (drop at report)) ≡ group_line (record { order = order; first = first; last = last; members = members })
+    → decode_core w (drop at report) ≡ record { order = order; first = first; last = last; members = members }
 unfolding decode_core
 record-at report at w {high = high} {members = members} l e f g h j k =
     let after : at + 5 + 8 ≡ at + 13 = omega arith in
@@ -101,47 +95,19 @@ record-at report at w {high = high} {members = members} l e f g h j k =
     let set : members ≡ from_little_endian (take w (drop (at + 5) report)) = k ∙ rw (h, second) (two-words-said w (drop (at + 5) report) l) in
     rw (e, f, g, set, get_or-drop at report 2 0, get_or-drop at report 3 0, get_or-drop at report 4 0, drop-drop 5 at report)
 
--- A loop over so many bytes, eight at most, the highest first: the number that those from byte i on say.
-word-step : (k j : ℕ) (bytes : List ℕ) → from_little_endian (take (suc k) (drop j bytes)) ≡ from_little_endian (take k (drop (suc j) bytes)) * 256 + get_or bytes j 0
+-- Bytes, eight at most, laid over a word of zeros: the word says the number that they say.
+zeros-after : (xs : List ℕ) → length xs ≤ 8 → from_le_bytes w64 (xs ++ drop (length xs) (replicate 8 0)) ≡ from_little_endian xs
 unfolding from_little_endian
-word-step k zero [] = rw (take-nil {A = ℕ} k)
-word-step k zero (b ∷ bs) = omega arith
-word-step k (suc j) [] = rw (take-nil {A = ℕ} k)
-word-step k (suc j) (b ∷ bs) = word-step k j bs
+zeros-after [] h = omega arith
+zeros-after (a ∷ []) h = omega arith
+zeros-after (a ∷ b ∷ []) h = omega arith
+zeros-after (a ∷ b ∷ c ∷ []) h = omega arith
+zeros-after (a ∷ b ∷ c ∷ d ∷ []) h = omega arith
+zeros-after (a ∷ b ∷ c ∷ d ∷ e ∷ []) h = omega arith
+zeros-after (a ∷ b ∷ c ∷ d ∷ e ∷ f ∷ []) h = omega arith
+zeros-after (a ∷ b ∷ c ∷ d ∷ e ∷ f ∷ g ∷ []) h = omega arith
+zeros-after (a ∷ b ∷ c ∷ d ∷ e ∷ f ∷ g ∷ i ∷ []) h = omega arith
+zeros-after (a ∷ b ∷ c ∷ d ∷ e ∷ f ∷ g ∷ i ∷ j ∷ xs) h = absurd (omega arith)
 
-pub record WordFrom (bytes : List ℕ) (at size i word : ℕ) : Type 0 where
-  pub few : i ≤ size
-  pub room : word < 2 ^ (8 * (size - i))
-  pub says : word ≡ from_little_endian (take (size - i) (drop (at + i) bytes))
-
-module _ {bytes : List ℕ} {at size : ℕ} where
-  pub word_none : WordFrom bytes at size size 0
-  unfolding from_little_endian
-  word_none =
-      let e : size - size ≡ 0 = omega arith in
-      record { few = le_refl size; room = rw e (omega arith); says = rw e }
-
-  module _ {i word b : ℕ} (w : WordFrom bytes at size i word) (l : 1 ≤ i) (c : b < 256) where
-    longer : word * 256 + b < 2 ^ (8 * (size - (i - 1)))
-    longer =
-        let e : 8 * (size - (i - 1)) ≡ 8 * (size - i) + 8 = omega (arith, w.few) in
-        rw (e, pow-add 2 (8 * (size - i)) 8) (omega (arith, w.room))
-
-    -- one byte more, and it fits a word
-    pub word_fits : size ≤ 8 → word * 256 + b < 2 ^ word_bits
-    word_fits h = let e : 8 * (size - (i - 1)) ≤ word_bits = omega arith in omega (arith, longer, pow_mono e)
-
-    pub word_more : b ≡ get_or bytes (at + (i - 1)) 0 → WordFrom bytes at size (i - 1) (word * 256 + b)
-    word_more f =
-        let h : suc (size - i) ≡ size - (i - 1) = omega (arith, w.few) in
-        let j : suc (at + (i - 1)) ≡ at + i = omega arith in
-        let step : from_little_endian (take (size - (i - 1)) (drop (at + (i - 1)) bytes)) ≡ from_little_endian (take (size - i) (drop (at + i) bytes)) * 256 + get_or bytes (at + (i - 1)) 0
-        = rw (h, j) at (word-step (size - i) (at + (i - 1)) bytes) in
-        record { few = omega (arith, w.few); room = longer; says = rw (step, ← f, ← w.says) }
-
-  pub word-done : {i word : ℕ} → WordFrom bytes at size i word → i ≤ 0 → word ≡ from_little_endian (take size (drop at bytes))
-  word-done {i} {word} w h =
-      let z : i ≡ 0 = omega arith in
-      let e : size - i ≡ size = omega arith in
-      let f : at + i ≡ at = omega arith in
-      w.says ∙ rw (e, f)
+pub word-said : (xs : List ℕ) → length xs ≤ 8 → from_le_bytes w64 (place 0 xs (replicate 8 0)) ≡ from_little_endian xs
+word-said xs h = rw (place-fits 0 xs (replicate 8 0) (omega arith), overwrite-front xs (replicate 8 0)) (zeros-after xs h)

@@ -1,13 +1,12 @@
--- What the functions that make a line promise.
-use Rattle.std.specs.Prelude.{List, ◌++◌, ◌≡◌, ℕ, suc, ◌+◌, ◌-◌, ◌*◌, ◌/◌, ◌≤◌, ◌<◌, length, take, drop}
+-- What the contracts of the functions that make a line name.
+use Rattle.std.specs.Prelude.{List, ℕ, suc, ◌+◌, ◌-◌, ◌*◌, ◌/◌}
 use Rattle.records.specs.Outcomes.{Outcome, refused, success}
+use Rattle.sets.specs.Members.{members}
+use Rattle.spans.specs.SpanCores.{SpanCore}
 use Rattle.spans.specs.Encoding.{record_bytes, head_badges}
-use Rattle.text.specs.Decimal.{decimal}
+use Rattle.text.specs.declared.line.Group.{Group}
 
--- room for any line, and for the digits of any number
-abbrev pub line_room : ℕ
-line_room = 512
-
+-- room for the digits of any number
 abbrev pub digit_room : ℕ
 digit_room = 20
 
@@ -24,23 +23,9 @@ member_room u = 2 * u + (u - 10) + (u - 100)
 abbrev pub most_lines : ℕ
 most_lines = 5041
 
--- the digits of n at the end of a list, from a place on
-pub record Spells (n start : ℕ) (digits : List ℕ) : Type 0 where
-  pub size : length digits ≡ digit_room
-  pub inside : start < digit_room
-  pub bytes : drop start digits ≡ decimal n
-
--- Bytes are appended to so many that stand at the start of a line.
-pub record Appends (bytes : List ℕ) (at at' : ℕ) (line line' : List ℕ) : Type 0 where
-  pub end : at' ≡ at + length bytes
-  pub size : length line' ≡ length line
-  pub front : take at' line' ≡ take at line ++ bytes
-
--- a line at the start of a buffer
-pub record Makes (bytes : List ℕ) (count : ℕ) (line' : List ℕ) : Type 0 where
-  pub size : length line' ≡ line_room
-  pub inside : count ≤ line_room
-  pub front : take count line' ≡ bytes
+-- the core that a group shows
+abbrev pub core_of : Group → SpanCore
+core_of g = record { order = g.order; first = g.first; last = g.last; members = members g.members }
 
 -- how many lines an answer shows, with the report that it left: one for a refusal, and else one for each record that the size has room for, and the
 -- first

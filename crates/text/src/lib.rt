@@ -5,8 +5,6 @@
 
 #![tactic(auto)]
 
-mod decimal;
-mod fields;
 mod line;
 mod pieces;
 mod preparing;

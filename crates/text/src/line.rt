@@ -1,70 +1,127 @@
 // The lines of a listing, each made in memory of its own.
-ghost use Rattle.std.specs.Prelude.{◌≡◌, ◌+◌, ◌≤◌, length};
-ghost use Rattle.sets.specs.Ascii.{ascii};
-ghost use Rattle.sets.specs.Sets.{has};
+ghost use Rattle.std.specs.Prelude.{◌≡◌, ℕ, ◌+◌, ◌≤◌, List, [], ◌++◌, length, take};
 ghost use Rattle.sets.specs.Members.{capacity, members};
-ghost use Rattle.sets.specs.Tables.{keep_if};
 ghost use Rattle.text.specs.Listing.{field, head_line, member_list, group_line, refusal_line};
-ghost use Rattle.text.specs.Making.{line_room, member_room, Appends, Makes};
+ghost use Rattle.text.specs.Making.{digit_room, member_room, core_of};
+ghost use Rattle.text.specs.declared.line.TheConstants.{LINE_ROOM};
 
-use crate::fields::{append, append_field};
-use sets::{BadgeSet, CAPACITY};
+use itoa::Buffer;
+use logs::put;
+use sets::BadgeSet;
+use std::marker::Model;
 
-// Appends a badge, after a space, if it is a member.
-fn append_member(line: &mut [u8], at: usize, set: BadgeSet, u: usize) -> usize
-    requires { at + 21 ≤ length line.old }
-    ensures { Appends (keep_if (has (members set) u) (field (ascii " ") u)) at result line.old line.new }
-{
-    if set.has(u) {
-        return append_field(line, at, b" ", u);
+// How many bytes there is room for: more than the longest line has.
+pub(crate) const LINE_ROOM: usize = 512;
+
+// The bytes of a line, appended one part after the other; a clause sees the list of them. An `ArrayVec` is no plainer here: its
+// `try_extend_from_slice` answers whether there was room, which each call would have to drop.
+#[derive(Drop)]
+pub(crate) struct Line {
+    bytes: [u8; LINE_ROOM],
+    len: usize,
+}
+
+impl Model for Line {
+    ghost Value = { List ℕ };
+
+    ghost view = { λ l. take l.len l.bytes };
+
+    ghost invariant = { λ l. l.len ≤ LINE_ROOM };
+}
+
+impl Line {
+    // No bytes.
+    fn new() -> Line
+        ensures { result ≡ [] }
+    {
+        Line {
+            bytes: [0; LINE_ROOM],
+            len: 0,
+        }
     }
-    at
-}
 
-// Appends the members of a set, rising, each after a space.
-fn append_members(line: &mut [u8], at: usize, set: BadgeSet) -> usize
-    requires { at + member_room capacity + 21 ≤ length line.old }
-    ensures appends { Appends (member_list (members set)) at result line.old line.new }
-    ensures upper_bound { result ≤ at + member_room capacity }
-{
-    let mut so_far = at;
-    for u in 0..CAPACITY {
-        let appended = append_member(line, so_far, set, u);
-        so_far = appended;
+    // The bytes so far.
+    pub(crate) fn as_slice(&self) -> &[u8]
+        ensures { result.now ≡ self.now }
+    {
+        &self.bytes[..self.len]
     }
-    so_far
+
+    // Appends bytes for which there is room.
+    fn append(&mut self, bytes: &[u8])
+        requires { length self.old + length bytes.now ≤ LINE_ROOM }
+        ensures { self.new ≡ self.old ++ bytes.now }
+    {
+        put(&mut self.bytes, self.len, bytes);
+        self.len += bytes.len();
+    }
+
+    // Appends a label and a number in decimal digits. A `write!` cannot be used here: it promises its text only where it answers Ok, and nothing
+    // says that it does.
+    fn append_field(&mut self, label: &[u8], n: usize)
+        requires { length self.old + length label.now + digit_room ≤ LINE_ROOM }
+        ensures appends { self.new ≡ self.old ++ field label.now n }
+        ensures upper_bound { length self.new ≤ length self.old + length label.now + digit_room }
+    {
+        let mut digits = Buffer::new();
+        self.append(label);
+        self.append(digits.format(n).as_bytes());
+    }
+
+    // Appends the members of a set, rising, each after a space.
+    fn append_members(&mut self, set: BadgeSet)
+        requires { length self.old + member_room capacity + digit_room + 1 ≤ LINE_ROOM }
+        ensures appends { self.new ≡ self.old ++ member_list (members set) }
+        ensures upper_bound { length self.new ≤ length self.old + member_room capacity }
+    {
+        for u in set.badges() {
+            self.append_field(b" ", u);
+        }
+    }
 }
 
-// Makes the first line of a report, and answers how many bytes it has.
-pub(crate) fn head_line(badges: u8, ticks: u8, groups: usize, line: &mut [u8]) -> usize
-    requires { length line.old ≡ line_room }
-    ensures { Makes (head_line badges ticks groups) result line.new }
-{
-    let at = append_field(line, 0, b"badges ", badges as usize);
-    let at = append_field(line, at, b" ticks ", ticks as usize);
-    let at = append_field(line, at, b" groups ", groups);
-    append(line, at, b"\n")
+// A group: its order, its first and last tick, and its members.
+#[derive(Clone, Copy)]
+pub(crate) struct Group {
+    pub(crate) order: u8,
+    pub(crate) first: u8,
+    pub(crate) last: u8,
+    pub(crate) members: BadgeSet,
 }
 
-// Makes the line of a group.
-pub(crate) fn group_line(order: u8, first: u8, last: u8, set: BadgeSet, line: &mut [u8]) -> usize
-    requires { length line.old ≡ line_room }
-    ensures { Makes (group_line (record { order = order; first = first; last = last; members = members set })) result line.new }
+// The first line of a report.
+pub(crate) fn head_line(badges: u8, ticks: u8, groups: usize) -> Line
+    ensures { result ≡ head_line badges ticks groups }
 {
-    let at = append_field(line, 0, b"order ", order as usize);
-    let at = append_field(line, at, b" ticks ", first as usize);
-    let at = append_field(line, at, b" to ", last as usize);
-    let at = append(line, at, b" badges");
-    let at = append_members(line, at, set);
-    append(line, at, b"\n")
+    let mut line = Line::new();
+    line.append_field(b"badges ", usize::from(badges));
+    line.append_field(b" ticks ", usize::from(ticks));
+    line.append_field(b" groups ", groups);
+    line.append(b"\n");
+    line
 }
 
-// Makes the line of a refusal.
-pub(crate) fn refusal_line(number: u8, offset: usize, line: &mut [u8]) -> usize
-    requires { length line.old ≡ line_room }
-    ensures { Makes (refusal_line number offset) result line.new }
+// The line of a group.
+pub(crate) fn group_line(group: Group) -> Line
+    ensures { result ≡ group_line (core_of group) }
 {
-    let at = append_field(line, 0, b"refused ", number as usize);
-    let at = append_field(line, at, b" at ", offset);
-    append(line, at, b"\n")
+    let mut line = Line::new();
+    line.append_field(b"order ", usize::from(group.order));
+    line.append_field(b" ticks ", usize::from(group.first));
+    line.append_field(b" to ", usize::from(group.last));
+    line.append(b" badges");
+    line.append_members(group.members);
+    line.append(b"\n");
+    line
+}
+
+// The line of a refusal.
+pub(crate) fn refusal_line(number: u8, offset: usize) -> Line
+    ensures { result ≡ refusal_line number offset }
+{
+    let mut line = Line::new();
+    line.append_field(b"refused ", usize::from(number));
+    line.append_field(b" at ", offset);
+    line.append(b"\n");
+    line
 }

@@ -24,17 +24,18 @@ pub fn lines(answer: Result<usize, Refusal>, report: &[u8], from: usize, buffer:
     ensures leaves { buffer.new ≡ (piece_of (shown_lines (written_outcome answer) report.now) from buffer.old).buffer }
 {
     let count = line_count(answer, report);
-    let mut line = [0u8; 512];
-    let mut next = from;
     let mut at: usize = 0;
-    while next < count {
-        let size = make_line(answer, report, next, &mut line);
-        if buffer.len() - at < size {
+    for next in from..count {
+        let line = make_line(answer, report, next);
+        let bytes = line.as_slice();
+        if buffer.len() - at < bytes.len() {
             return Piece { next, bytes: at };
         }
-        put(buffer, at, &line[..size]);
-        at += size;
-        next += 1;
+        put(buffer, at, bytes);
+        at += bytes.len();
     }
-    Piece { next, bytes: at }
+    Piece {
+        next: from.max(count),
+        bytes: at,
+    }
 }

@@ -1,11 +1,10 @@
 -- head_line meets its contract: three labelled numbers and a newline.
-use borrow.Author.Rules.{rules}
+use mathlib.Core.List.{append_assoc}
 use Rattle.text.specs.Listing.{head_line}
-use Rattle.text.proofs.Appended.{appends-then, makes}
 use Rattle.text.proofs.line.head_line.Goals as goal
 
 pub returns : goal.returns
 unfolding head_line
 returns c =
-    makes c.requires (search rules)
-    (appends-then c.append_field-at.ensures.appends (appends-then c.append_field-at-2.ensures.appends (appends-then c.append_field-at-3.ensures.appends c.append.ensures)))
+    rw (c.append.ensures, c.append_field-3.ensures.appends, c.append_field-2.ensures.appends, c.append_field.ensures.appends, c.new-line.ensures, c.from.ensures, c.from-2.ensures)
+    (simp append_assoc)
