@@ -1,9 +1,8 @@
-// Sets of badges, and a byte as a number. A set goes in and comes back by value; no function has a precondition.
+// Sets of badges. A set goes in and comes back by value; no function has a precondition.
 
 #![tactic(auto)]
 
 mod walking;
-mod widening;
 
 ghost use Rattle.std.specs.Prelude.{◌≡◌, ◌-◌, ◌/◌, min, eqb, get_or};
 ghost use Rattle.sets.specs.Sets.{has, is_sub, intersection, union, difference, symmetric_difference, only, full, size, smallest};
@@ -11,7 +10,6 @@ ghost use Rattle.sets.specs.Words.{word_bits, lower_words, to_words, set_at, put
 ghost use Rattle.sets.specs.Members.{set_of_two, members, capacity, insert};
 
 pub use walking::{Badges, Ones};
-pub use widening::widen;
 
 // The bits of a word; how many words hold a set, in memory that is lent and in memory of one's own; how many badges there can be in a set; and the words of
 // a row for each of them.
