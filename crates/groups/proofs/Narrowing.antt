@@ -88,10 +88,6 @@ module _ {n T : ℕ} {ws : List ℕ} (d : LentDay n T ws) where
 pub first_of : {n : ℕ} {ws : List ℕ} {first last : ℕ} {rows : List ℕ} → first ≤ last → rows ≡ span_words n ws first first → RowsTo n ws first last rows first
 first_of {first = first} l e = record { low = le_refl first; high = l; are = e }
 
--- the words of a span's rows are as many as all rows have
-pub to-size : {n : ℕ} {ws : List ℕ} {first last t : ℕ} {rows : List ℕ} → RowsTo n ws first last rows t → length rows ≡ row_words
-to-size {n} {ws} {first} {t = t} g = ap length g.are ∙ span-words-length n ws first t
-
 -- at the last tick
 pub to_end : {n : ℕ} {ws : List ℕ} {first last t : ℕ} {rows : List ℕ} → RowsTo n ws first last rows t → last ≤ t → rows ≡ span_words n ws first last
 to_end {n} {ws} {first} {last} {t} g l = let e : t ≡ last = omega (arith, g.high) in g.are ∙ ap (span_words n ws first) e

@@ -60,11 +60,8 @@ below_more {P} c f x i h = go (ℕ_discrete i c)
     go (yes e) = subst P (sym e) x
     go (no g) = f i (omega arith)
 
--- words are exchanged: none, and one more of each part
+-- words are exchanged: one more of each part
 module _ (first second : ℕ) (lent : List ℕ) where
-  pub exchanged-none : Exchanged first second 0 lent lent
-  exchanged-none = record { either = λ i h. absurd (not-suc-le-zero h); both = λ i h. absurd (not-suc-le-zero h); others = λ n f. refl }
-
   pub exchanged-more : {work : List ℕ} (c : ℕ) {x y : ℕ} → first + c < second → second + c < length work → Exchanged first second c lent work
       → x ≡ union (get_or work (first + c) 0) (get_or work (second + c) 0) → y ≡ intersection (get_or work (first + c) 0) (get_or work (second + c) 0)
       → Exchanged first second (c + 1) lent (set (set work (first + c) x) (second + c) y)
@@ -138,9 +135,6 @@ module _ (k size : ℕ) {lent work : List ℕ} where
     where
       last : (n : ℕ) → n ≤ k → (b : Bool) → (leb k n and b) ≡ leb (suc k) (n + digit b)
       last n h b = rw (lt-leb (suc k) n (omega arith)) at (step k n b)
-
-pub sorted_none : (size : ℕ) (lent : List ℕ) → Sorted 0 size lent lent
-sorted_none size lent = record { ranks = λ j h. absurd (not-suc-le-zero h); keeps = λ n h. refl }
 
 -- words are copied: none, and one more
 module _ (from : ℕ) (work lent : List ℕ) where

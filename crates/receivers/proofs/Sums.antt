@@ -26,9 +26,6 @@ pub record TakenOff (ls : List ℕ) (bytes left i : ℕ) : Type 0 where
   pub inside : i ≤ length ls
   pub balance : sum ls + left ≡ bytes + sum (drop i ls)
 
-pub taken_none : (ls : List ℕ) (bytes : ℕ) → TakenOff ls bytes bytes 0
-taken_none ls bytes = record { inside = omega arith; balance = omega arith }
-
 pub taken_more : {ls : List ℕ} {bytes left left' i : ℕ} → TakenOff ls bytes left i → i < length ls → left ≡ left' + get_or ls i 0 → TakenOff ls bytes left' (i + 1)
 taken_more {ls} {bytes} {left} {left'} {i} t h e = record { inside = omega arith; balance = omega (arith, t.balance, sum-at ls i h) }
 

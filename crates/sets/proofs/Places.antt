@@ -171,14 +171,6 @@ put_other ws i j s f = by_cases (dec_lt j (places ws))
         (λ h. rw (put_in ws i s h) (run-elsewhere (to_words lower_words s) ws (i * set_words) k (λ y l e. g (omega (arith, length-to-words lower_words s)))))
         (λ h. rw (put-out ws i s (omega arith)))
 
--- the words up to the set that was put: those before it, and its own
-pub put_first : (ws : List ℕ) (i s : ℕ) → i < places ws → take (suc i * set_words) (put_set ws i s) ≡ take (i * set_words) ws ++ to_words lower_words s
-put_first ws i s h =
-    let e = length-to-words lower_words s in
-    let k = length-take-le (i * set_words) ws (omega arith) in
-    ap (take (suc i * set_words)) (put_in ws i s h ∙ sets-eq (to_words lower_words s) ws (i * set_words) (rw e (omega arith)))
-    ∙ take_at (take (i * set_words) ws ++ to_words lower_words s) _ (suc i * set_words) (omega (arith, length-append (take (i * set_words) ws) (to_words lower_words s)))
-
 -- the words of sets are so many
 pub words-of-length : (ss : List ℕ) → length (words_of ss) ≡ length ss * set_words
 unfolding words_of

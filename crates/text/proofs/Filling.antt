@@ -56,9 +56,6 @@ unfolding bytes_in joined
 bytes-none room ls z = rw z
 
 module _ {ls : List (List ℕ)} {from : ℕ} {buffer : List ℕ} where
-  pub fills-none : Fills ls from from 0 buffer buffer
-  fills-none = let e : length buffer - 0 ≡ length buffer = omega arith in record { size = refl; inside = omega arith; lines = rw e; bytes = rw e; rest = refl }
-
   module _ {next at : ℕ} {buffer' : List ℕ} (f : Fills ls from next at buffer buffer') where
     -- a line more
     pub fills-more : {l : List ℕ} {buffer'' : List ℕ} → next < length ls → l ≡ get_or ls next [] → length l ≤ length buffer' - at → buffer'' ≡ place at l buffer'
