@@ -79,7 +79,7 @@ pub(crate) fn lists(log: &[u8]) -> bool {
     answers_as(got, answer_of(&wanted))
         & hold(&words, log, judged)
         & holds(&buffer, bytes_of(&wanted))
-        & text.is_ok_and(|text| shows(got, &buffer, text.as_str().as_bytes()))
+        & shows(got, &buffer, text.as_str().as_bytes())
 }
 
 // Write.
