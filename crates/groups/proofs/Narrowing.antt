@@ -24,7 +24,7 @@ use Rattle.days.proofs.Days.{tick-fits}
 use Rattle.checks.proofs.TickRows.{over-empty, over-copied}
 use Rattle.days.specs.Days.{LentDay}
 use Rattle.spans.specs.Spans.{span_words}
-use Rattle.spans.proofs.SpanRows.{span-words-length, span-set-none}
+use Rattle.spans.proofs.SpanRows.{span-set-none}
 use Rattle.groups.specs.Steps.{tick_of, NextTick, Narrows, RowsTo, EmptyFrom}
 use Rattle.groups.proofs.TickRows.{tick-span}
 
@@ -110,10 +110,6 @@ module _ {n T : ℕ} {ws : List ℕ} (d : LentDay n T ws) where
 -- a longer span starts with the rows of its first tick
 pub first_of : {n : ℕ} {ws : List ℕ} {first last : ℕ} {rows : List ℕ} → first ≤ last → rows ≡ span_words n ws first first → RowsTo n ws first last rows first
 first_of {first = first} l e = record { low = le_refl first; high = l; are = e }
-
--- the words of a span's rows are as many as all rows have
-pub to-size : {n : ℕ} {ws : List ℕ} {first last t : ℕ} {rows : List ℕ} → RowsTo n ws first last rows t → length rows ≡ row_words
-to-size {n} {ws} {first} {t = t} g = ap length g.are ∙ span-words-length n ws first t
 
 -- at the last tick
 pub to_end : {n : ℕ} {ws : List ℕ} {first last t : ℕ} {rows : List ℕ} → RowsTo n ws first last rows t → last ≤ t → rows ≡ span_words n ws first last
