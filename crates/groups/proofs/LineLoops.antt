@@ -6,7 +6,7 @@ use Prim.Native.Nat.{ℕ, ◌+◌, ◌≤◌, ◌<◌, min}
 use native.Mathlib.Nat.{le_refl}
 use native.Mathlib.Decide.{dec_lt}
 use native.Mathlib.Omega.{arith}
-use lib.ListN.{length, set, length-set}
+use lib.ListN.{set, length-set}
 use lib.Seq.{get_or-set_same, get_or-set_other}
 use Rattle.sets.specs.Sets.{Sub, intersection, full}
 use Rattle.sets.specs.Members.{capacity, members}
@@ -133,10 +133,6 @@ module _ {n T : ℕ} {ws : List ℕ} {base query first enough : ℕ} {line : Lis
       above = f.above last (le_refl last);
     }
 
-    -- the tick is a place of the line
-    pub place-line : last < length line'
-    place-line = omega (arith, f.found.size, b.size, (limits_of d.limits).short)
-
     -- a span more is found
     pub finding-next : {order word : ℕ} (x : Found) {narrowed : List ℕ} {tick : ℕ} → x.order ≡ order → members x.members ≡ word → CoreFound n ws base query first last enough order word x.circles x.large narrowed tick
         → Finding n T ws base query first enough line (last + 1) narrowed tick order (set line' last x)
@@ -164,7 +160,7 @@ module _ {n T : ℕ} {ws : List ℕ} {base query first enough : ℕ} {line : Lis
         other i h = get_or-set_other line' last i x none h
 
         here : at (set line' last x) last ≡ x
-        here = get_or-set_same line' last x none place-line
+        here = get_or-set_same line' last x none (omega (arith, f.found.size, b.size, (limits_of d.limits).short))
 
 pub finding-end : {n T : ℕ} {ws : List ℕ} {base query first enough : ℕ} {line : List Found} {last : ℕ} {rows : List ℕ} {reached upper : ℕ} {line' : List Found}
     → Finding n T ws base query first enough line last rows reached upper line' → T ≤ last → LineFound n T ws base query first enough line line'

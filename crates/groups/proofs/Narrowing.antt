@@ -19,7 +19,7 @@ use Rattle.days.proofs.Days.{tick-fits}
 use Rattle.checks.proofs.TickRows.{over-empty}
 use Rattle.days.specs.Days.{LentDay}
 use Rattle.spans.specs.Spans.{span_words}
-use Rattle.spans.proofs.SpanRows.{span-words-length, span-set-none}
+use Rattle.spans.proofs.SpanRows.{span-set-none}
 use Rattle.groups.specs.Steps.{tick_of, NextTick, Narrows, RowsTo, EmptyFrom}
 use Rattle.groups.proofs.TickRows.{tick-span}
 
