@@ -17,7 +17,7 @@ impl From<Refusal> for SeriesRefusal {
     ghost from_gives = { λ refusal result. result ≡ Log refusal };
 
     fn from(refusal: Refusal) -> SeriesRefusal {
-        SeriesRefusal::Log(refusal)
+        Self::Log(refusal)
     }
 }
 

@@ -27,7 +27,7 @@ impl From<logs::Refusal> for Refusal {
     ghost from_gives = { λ refusal result. result ≡ Log refusal };
 
     fn from(refusal: logs::Refusal) -> Refusal {
-        Refusal::Log(refusal)
+        Self::Log(refusal)
     }
 }
 
