@@ -22,7 +22,7 @@ loop-place-init c =
     let a = c.args in
     let full : length a.columns.now ≡ capacity = search rules in
     rw c.into_iter-place-iterator.ensures.into_iter_gives
-        (omega arith, sub_refl _, tabulate-is capacity a.columns.now _ full (λ i l. refl) ∙ fill_start capacity (in_word a.i a.word) _ _)
+    (omega arith, sub_refl _, tabulate-is capacity a.columns.now _ full (λ i l. refl) ∙ fill_start capacity (in_word a.i a.word) _ _)
 
 -- the badge at hand is one of those to come, and there is a column for it
 here : (c : goal.In-Some) →
