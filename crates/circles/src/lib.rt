@@ -20,7 +20,7 @@ pub struct Counted {
 }
 
 // The circle of the smallest member of a set; the empty set has none. Of the members that are reached, the row of one after the other is looked at,
-// until none is on the frontier, of those whose row was not, or nobody is left to reach.
+// until none is on the frontier, of those whose row was not, or nobody is left to reach. (No `for`, here and below: the frontier grows while it is walked.)
 fn circle_in_words(rows: &[u64; ROW_WORDS], s: BadgeSet) -> BadgeSet
     ensures { members result ≡ first_circle (graph rows.now) (members s) }
 {
@@ -74,7 +74,7 @@ pub fn circle_of(rows: &[u64; ROW_WORDS], s: BadgeSet) -> BadgeSet
     circle_in_words(rows, s)
 }
 
-// How many circles a set has, and how many of them have at least so many members.
+// How many circles a set has, and how many of them have at least so many members. (No `for`: each turn says what is left for the next.)
 pub fn count_circles(rows: &[u64; ROW_WORDS], s: BadgeSet, least: usize) -> Counted
     ensures all { result.all ≡ length (circles (graph rows.now) (members s)) }
     ensures large { result.large ≡ length (at_least least (circles (graph rows.now) (members s))) }

@@ -8,7 +8,8 @@ ghost use Rattle.cores.specs.Passes.{LookedAt, Passed, IsCoreKept};
 
 use sets::{BadgeSet, CAPACITY, ROW_WORDS, SET_WORDS, put_set, set_at};
 
-// What is left of a set while badges are dropped, and the least degree among those that were kept; the capacity where none was.
+// What is left of a set while badges are dropped, and the least degree among those that were kept; the capacity where none was. (No Option, since `peel`
+// promises that number for nobody.)
 #[derive(Clone, Copy)]
 pub(crate) struct Kept {
     pub(crate) members: BadgeSet,
@@ -70,6 +71,7 @@ fn pass(rows: &[u64; ROW_WORDS], s: BadgeSet, order: usize) -> Kept
 pub(crate) fn core(rows: &[u64; ROW_WORDS], base: BadgeSet, order: usize) -> Kept
     ensures { IsCoreKept (graph rows.now) (members base) order (members result.members) result.least }
 {
+    // No `for`, since nothing is counted: passes follow until one drops nobody.
     let mut left = base;
     loop {
         let next = pass(rows, left, order);

@@ -55,7 +55,7 @@ impl SideRows<'_> {
         self.rows[SET_WORDS * (self.from + u) + self.side]
     }
 
-    // Takes the word of the smallest badge of a word; an empty one where it has none.
+    // Takes the word of the smallest badge of a word; an empty one where it has none. (No Option: eight words are added without a test of each.)
     fn take(self, word: u64) -> Taken
         ensures { TakesRow (row_word self.entry.rows.now self.entry.from self.entry.side) word result.row result.rest }
     {

@@ -53,7 +53,7 @@ fn contains(s: BadgeSet, query: BadgeSet) -> bool
 }
 
 // Drops the badges whose in-degree is below the order, all at once, until there is none: what is left is a core. There is none that contains the query
-// where fewer badges are left than the order asks, or not the whole query.
+// where fewer badges are left than the order asks, or not the whole query. (No `for`, since nothing is counted: badges are dropped until none is low.)
 fn settle(rows: &[u64; ROW_WORDS], given: Counted, query: BadgeSet, k: usize) -> Option<Counted>
     requires counted { (1 ≤ k) × (k ≤ half) × Counting (graph rows.now) (members given.members) k (number_of given.degrees) }
     requires contained { (ltb 0 (members given.members) and is_sub (members query) (members given.members)) ≡ true }
@@ -141,7 +141,7 @@ fn climb(rows: &[u64; ROW_WORDS], base: BadgeSet, query: BadgeSet, above: u8, st
 
 // The core of the largest order above one given order and up to another, among the badges of a base set, that contains the query; the lower
 // order and no members where there is none. It is a core of the transposed graph: the degree of a badge is the number of members in whose
-// row it is. For symmetric rows that is the graph itself.
+// row it is. For symmetric rows that is the graph itself. (No Option, since it promises the lower order too where there is no core.)
 pub fn highest(
     rows: &[u64; ROW_WORDS],
     base: BadgeSet,

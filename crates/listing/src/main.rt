@@ -11,7 +11,7 @@ use text::{Refusal, lines, prepare};
 // A line for each group, and the first: a report of 65,536 bytes has at most 5,040 groups, of 13 bytes each and 10 beside them.
 const MOST_LINES: usize = 5041;
 
-// Reads until a buffer is full or the input ends, and answers how many bytes it put at the start of the buffer.
+// Reads until a buffer is full or the input ends, and answers how many bytes it put at the start of the buffer. (No `for`: a read says how far it came.)
 fn read_full<R: Read>(input: &mut R, buffer: &mut [u8]) -> io::Result<usize>
     ensures { IfOk result (λ size. size ≤ length buffer.new) }
 {

@@ -16,7 +16,7 @@ pub(crate) struct TickSet {
     pub(crate) high: u64,
 }
 
-// The first bit from one on that is 1; 64 where there is none.
+// The first bit from one on that is 1; 64 where there is none. (No Option, here and below: the end of a set is where a run ends too.)
 fn first_bit(word: u64, from: usize) -> usize
     requires { from < word_bits }
     ensures { First (has word) from word_bits result }

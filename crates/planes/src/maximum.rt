@@ -30,7 +30,7 @@ fn narrow(leading: Leading, plane: u64) -> Leading
     }
 }
 
-// The largest number in the lanes of a word's bits; 0 where it has none.
+// The largest number in the lanes of a word's bits; 0 where it has none. (No Option, since that is what it promises.)
 pub fn largest(p: Planes, lanes: u64) -> usize
     ensures { LargestLane lanes (planes_of p) result }
 {

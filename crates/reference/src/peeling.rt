@@ -45,7 +45,7 @@ pub(crate) fn core_of(rows: &Rows, n: usize, k: usize) -> u64 {
     left
 }
 
-// The core of the largest order that contains a query; order 0 and all n badges where there is none.
+// The core of the largest order that contains a query; order 0 and all n badges where there is none, as a plan shows them.
 pub(crate) fn highest(rows: &Rows, n: usize, query: u64) -> Core {
     (1..MAX_BADGES)
         .map(|order| Core {

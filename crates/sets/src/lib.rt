@@ -56,7 +56,8 @@ impl BadgeSet {
         BadgeSet { low, high }
     }
 
-    // Word i of those that hold the set, lower badges first; 0 where there is none.
+    // Word i of those that hold the set, lower badges first; 0 where there is none. (No Option, since that is what it promises: past a set's words there is no
+    // badge.)
     pub fn word(self, i: usize) -> u64
         ensures { result ≡ get_or (to_words lower_words (members self)) i 0 }
     {
@@ -189,7 +190,7 @@ impl BadgeSet {
         self.high & other.high == self.high
     }
 
-    // The smallest badge in the set; the capacity where there is none.
+    // The smallest badge in the set; the capacity where there is none. (No Option, since that is what it promises; a walk by `badges` says where a set ends.)
     pub fn smallest(self) -> usize
         ensures { result ≡ smallest capacity (members self) }
     {

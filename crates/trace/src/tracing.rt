@@ -40,8 +40,8 @@ fn trace_day(
 }
 
 // Puts the trace from an index badge and a start tick on into the buffer that is lent: for each badge the earliest tick in which it can have been
-// reached, 255 if never, and then for each badge its source, 255 where it has none. Answers the number of bytes, 2n. Refused by 10, 8, 11, 22 and 9,
-// in that order; a refused call changes no byte, and bytes after the answer are never touched.
+// reached, 255 if never, and then for each badge its source, 255 where it has none (bytes that the papers give). Answers the number of bytes, 2n. Refused
+// by 10, 8, 11, 22 and 9, in that order; a refused call changes no byte, and bytes after the answer are never touched.
 pub fn trace(
     words: &[u64],
     badges: usize,
