@@ -1,19 +1,19 @@
 -- Laws of the badges that a word has as one word of a set, and of a walk over them: the badge at hand is the word's lowest, and w & (w - 1) is what is left
 -- of the word after its turn. The badges of the words that hold a set are its members.
 use mathlib.Core.Path.{◌≡◌, sym, ap, ◌∙◌}
-use mathlib.Core.Logic.{by_cases}
+use mathlib.Core.Logic.{by_cases, ◌⊎◌, inl, inr}
 use Prim.Native.Nat.{ℕ, ◌+◌, ◌-◌, ◌*◌, ◌/◌, ◌%◌, ◌^◌, ◌≤◌, ◌<◌}
 use native.Mathlib.Nat.{add-zero, zero-mul, mul-one, mul_comm}
-use native.Mathlib.Decide.{dec_lt}
+use native.Mathlib.Decide.{dec_lt, ℕ_discrete}
 use native.Mathlib.Omega.{arith}
 use lib.Bits.{bit_and}
 use lib.Dec.{lit<}
 use lib.ListN.{length, get_or, get_or-eq_default}
 use lib.Pow.{pow_pos, pow-add}
-use Rattle.sets.specs.Sets.{bit, In, Sub, difference, only, set_of, full, smallest}
+use Rattle.sets.specs.Sets.{bit, In, Sub, difference, only, set_of, full, smallest, union}
 use Rattle.sets.specs.Words.{word_bits, in_word, to_words, lower_words}
 use Rattle.sets.specs.Members.{capacity}
-use Rattle.sets.proofs.Sets.{not-in-none, in-difference, of-difference, difference-none, in-only, of-only, in-lt, in-full, of-full, ext}
+use Rattle.sets.proofs.Sets.{not-in-none, in-difference, of-difference, difference-none, in-only, of-only, in-lt, in-full, of-full, ext, in-union-left, in-union-right, of-union}
 use Rattle.sets.proofs.Smallest.{smallest-member, without-smallest}
 use Rattle.sets.proofs.Blocks.{bit-low, bit_high}
 use Rattle.sets.proofs.Words.{words-bit, to-words-words, from-to-words}
@@ -135,3 +135,51 @@ module _ (s : ℕ) (l : s < 2 ^ capacity) where
   from-last-word = ext _ _
       (λ v h. let x = of-difference s _ v h in absurd (x.1 (in-full capacity v (in-lt capacity s v l x.0))))
       (λ v h. absurd (not-in-none v h))
+
+-- On a walk over the members of s, word by word: those unseen at word i while w is left of it.
+unfoldable pub unseen_at : ℕ → ℕ → ℕ → ℕ
+unseen_at s i w = union (in_word i w) (difference s (full ((i + 1) * word_bits)))
+
+-- at first those from word i on
+pub unseen-first : (s i : ℕ) {w : ℕ} → s < 2 ^ capacity → w ≡ get_or (to_words lower_words s) i 0 → difference s (full (i * word_bits)) ≡ unseen_at s i w
+unfolding unseen_at
+unseen-first s i l e = rw (e, ← from-next-word s l i) (ext _ _
+    (λ v h. by_cases (ℕ_discrete (bit (in_word i _) v) 1) (in-union-left _ _ v) (λ f. in-union-right _ _ v (in-difference _ _ v h f)))
+    (λ v h. go v (of-union _ _ v h)))
+  where
+    go : (v : ℕ) → In (in_word i (get_or (to_words lower_words s) i 0)) v ⊎ In (difference (difference s (full (i * word_bits))) (in_word i (get_or (to_words lower_words s) i 0))) v
+        → In (difference s (full (i * word_bits))) v
+    go v (inl h) = (from-word-sub s l i).at v h
+    go v (inr h) = (of-difference _ _ v h).0
+
+-- at last those from the next word on
+pub unseen-last : (s i : ℕ) {w : ℕ} → w ≡ 0 → unseen_at s i w ≡ difference s (full ((i + 1) * word_bits))
+unfolding unseen_at
+unseen-last s i {w} e = rw (word_none i w e) (ext _ _ (λ v h. go v (of-union _ _ v h)) (in-union-right _ _))
+  where
+    go : (v : ℕ) → In 0 v ⊎ In (difference s (full ((i + 1) * word_bits))) v → In (difference s (full ((i + 1) * word_bits))) v
+    go v (inl h) = absurd (not-in-none v h)
+    go v (inr h) = h
+
+-- in between the badge at hand is one of them, and the others are left after its turn
+module _ (s i w b : ℕ) (l : w < 2 ^ word_bits) (f : w ≡ 0 → ⊥) (e : b ≡ smallest word_bits w) where
+  pub unseen-at-hand : In (unseen_at s i w) (i * word_bits + b)
+  unfolding unseen_at
+  unseen-at-hand = in-union-left _ _ _ (at-hand i w b l f e).0
+
+  pub unseen-rest : unseen_at s i (bit_and w (w - 1)) ≡ difference (unseen_at s i w) (only (i * word_bits + b))
+  unfolding unseen_at
+  unseen-rest = rw (word-rest i w b l f e) (ext _ _
+      (λ v h. there v (of-union _ _ v h))
+      (λ v h. let x = of-difference _ (only (i * word_bits + b)) v h in back v x.1 (of-union _ _ v x.0)))
+    where
+      there : (v : ℕ) → In (difference (in_word i w) (only (i * word_bits + b))) v ⊎ In (difference s (full ((i + 1) * word_bits))) v
+          → In (difference (union (in_word i w) (difference s (full ((i + 1) * word_bits)))) (only (i * word_bits + b))) v
+      there v (inl h) = let x = of-difference (in_word i w) _ v h in in-difference _ _ v (in-union-left _ _ v x.0) x.1
+      there v (inr h) = in-difference _ _ v (in-union-right _ _ v h) (λ k.
+          (of-difference s _ v h).1 (in-full _ v (omega (arith, of-only _ v k, (at-hand i w b l f e).1))))
+
+      back : (v : ℕ) → (In (only (i * word_bits + b)) v → ⊥) → In (in_word i w) v ⊎ In (difference s (full ((i + 1) * word_bits))) v
+          → In (union (difference (in_word i w) (only (i * word_bits + b))) (difference s (full ((i + 1) * word_bits)))) v
+      back v k (inl h) = in-union-left _ _ v (in-difference (in_word i w) _ v h k)
+      back v k (inr h) = in-union-right _ _ v h
