@@ -62,7 +62,7 @@ struct Lines<'a, P: Print> {
 impl<'a, P: Print> Lines<'a, P> {
     // Prints the line of a family.
     fn print(&mut self, name: &str, family: Tally) -> io::Result<()> {
-        self.all.print(self.rt, name, family)
+        self.all.print(self.rt, name.as_bytes(), family)
     }
 
     // Runs small random cases of a family, and some larger ones, and prints its line.

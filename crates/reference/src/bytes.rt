@@ -1,9 +1,7 @@
 // Bytes that grow at their end, and the records that are spelled with them.
 ghost use Rattle.std.specs.Prelude.{◌≤◌, length};
-ghost use Rattle.reference.specs.declared.bytes.TheConstants.{ROOM};
 
 use crate::day::Span;
-use arrayvec::ArrayVec;
 
 // How many bytes there is room for.
 pub const ROOM: usize = 4096;
@@ -38,53 +36,67 @@ pub(crate) fn rest_of(bytes: &[u8], at: usize) -> &[u8] {
     bytes.get(at..).unwrap_or(&[])
 }
 
-// Bytes of a log, a report or a plan. What finds no room is left out.
-#[derive(Drop)]
+// Bytes of a log, a report or a plan: those in front, after which each place holds the filler. What finds no room is left out, byte by byte. (No
+// `ArrayVec`, which is no `Copy` type.)
+#[derive(Clone, Copy)]
 pub struct Bytes {
-    items: ArrayVec<u8, ROOM>,
+    bytes: [u8; ROOM],
+    len: usize,
+    ghost fits: { len ≤ 4096 },
 }
 
 impl Bytes {
+    ghost use Rattle.std.specs.Prelude.{◌≡◌, take};
+
     // No bytes.
-    pub(crate) fn new() -> Bytes {
+    pub(crate) fn new() -> Bytes
+        ensures { result.len ≡ 0 }
+    {
         Bytes {
-            items: ArrayVec::new(),
+            bytes: [FILLER; ROOM],
+            len: 0,
         }
     }
 
     pub fn as_slice(&self) -> &[u8]
-        ensures { length result.now ≤ ROOM }
+        ensures value { result.now ≡ take self.now.len self.now.bytes }
+        ensures fits { length result.now ≤ 4096 }
     {
-        self.items.as_slice()
+        &self.bytes[..self.len]
     }
 
     pub fn len(&self) -> usize
-        ensures { result ≤ ROOM }
+        ensures value { result ≡ self.now.len }
+        ensures fits { result ≤ 4096 }
     {
-        self.items.len()
+        self.as_slice().len()
     }
 
     // Changes a byte, if there is one.
     pub(crate) fn set(&mut self, at: usize, value: u8) {
-        if let Some(byte) = self.items.get_mut(at) {
-            *byte = value;
+        if at < self.len {
+            self.bytes[at] = value;
         }
     }
 
     // Cuts the end off, or puts fillers after it, so that there are so many bytes.
     pub(crate) fn resize(&mut self, len: usize) {
-        self.items.truncate(len);
-        for _ in self.items.len()..len {
-            self.put(FILLER);
-        }
+        let kept = self.len.min(len);
+        self.bytes[kept..].fill(FILLER);
+        self.len = len.min(ROOM);
     }
 
     fn put(&mut self, byte: u8) {
-        let _ = self.items.try_push(byte);
+        if self.len < ROOM {
+            self.bytes[self.len] = byte;
+            self.len += 1;
+        }
     }
 
     fn put_all(&mut self, bytes: &[u8]) {
-        let _ = self.items.try_extend_from_slice(bytes);
+        for byte in bytes {
+            self.put(*byte);
+        }
     }
 
     // The lowest eight bits of a number.

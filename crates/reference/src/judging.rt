@@ -1,8 +1,8 @@
 // The judge of logs: record by record, each in document 01's order. The header has four bytes and every other record six, so record k after
 // the header starts at 4 + 6k.
-ghost use Rattle.std.specs.Prelude.{◌≤◌, IfOk};
-ghost use Rattle.reference.specs.Verdicts.{Known, Judged};
-ghost use Rattle.reference.specs.declared.limits.TheConstants.{MAX_CONTACTS};
+ghost use Rattle.std.specs.Prelude.{◌≡◌, ◌≤◌, IfOk};
+ghost use Rattle.std.specs.Result.{IfErr};
+ghost use Rattle.reference.specs.Verdicts.{Known, number_of, Judged};
 
 use crate::bytes::{CONTACT_BYTES, HEADER_BYTES, rest_of};
 use crate::limits::{MAX_BADGES, MAX_CONTACTS, MAX_TICKS};
@@ -36,7 +36,9 @@ pub enum Why {
 
 impl Why {
     // The refusal of a log for this, at an offset.
-    fn at(self, offset: usize) -> Refusal {
+    fn at(self, offset: usize) -> Refusal
+        ensures { result.why ≡ self }
+    {
         Refusal { why: self, offset }
     }
 }
@@ -51,7 +53,8 @@ pub struct Refusal {
 impl Refusal {
     // The number of the refusal.
     pub fn number(self) -> usize
-        ensures { Known result }
+        ensures known { Known result }
+        ensures value { result ≡ number_of self.why }
     {
         self.why as usize
     }
@@ -66,7 +69,9 @@ fn in_limits(number: u8, limit: usize) -> bool {
 }
 
 // n and T of the header that a log begins with.
-fn judge_header(log: &[u8]) -> Result<(u8, u8), Refusal> {
+fn judge_header(log: &[u8]) -> Result<(u8, u8), Refusal>
+    ensures { IfErr result (λ refusal. number_of refusal.why ≤ 3) }
+{
     match log {
         [] | [_] => Err(Why::CutShort.at(0)),
         [b'B', b'H', n, ticks, ..] if in_limits(*n, MAX_BADGES) && in_limits(*ticks, MAX_TICKS) => {
@@ -90,7 +95,7 @@ fn is_contact(record: &[u8], n: u8, ticks: u8) -> bool {
 
 // How many contacts follow the header before anything else: no more than a log may have.
 fn count_contacts(log: &[u8], n: u8, ticks: u8) -> usize
-    ensures { result ≤ MAX_CONTACTS }
+    ensures { result ≤ 8000 }
 {
     rest_of(log, HEADER_BYTES)
         .chunks(CONTACT_BYTES)
@@ -101,7 +106,7 @@ fn count_contacts(log: &[u8], n: u8, ticks: u8) -> usize
 
 // Judges the record after so many contacts, which is no valid one or one too many: it has to be an end with their count, and the last.
 fn judge_end(log: &[u8], contacts: usize) -> Result<(), Refusal>
-    requires { contacts ≤ MAX_CONTACTS }
+    requires { contacts ≤ 8000 }
 {
     let at = HEADER_BYTES + CONTACT_BYTES * contacts;
     match rest_of(log, at) {

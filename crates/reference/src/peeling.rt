@@ -1,5 +1,8 @@
 // The cores of a span. While some badge that is left has fewer than k of those left in contact with it, one such badge is dropped; those
 // left then are the core of order k.
+ghost use Rattle.std.specs.Prelude.{◌<◌};
+ghost use Rattle.std.specs.Option.{IfSome};
+
 use crate::bits::{all, has, size, with, without};
 use crate::bytes::Bytes;
 use crate::day::{Day, Span};
@@ -26,7 +29,9 @@ pub(crate) fn rows(day: &Day, span: Span) -> Rows {
 }
 
 // The first badge left whose degree is below k.
-fn low_badge(rows: &Rows, left: u64, k: usize) -> Option<usize> {
+fn low_badge(rows: &Rows, left: u64, k: usize) -> Option<usize>
+    ensures { IfSome result (λ u. u < 64) }
+{
     rows.iter()
         .enumerate()
         .position(|(u, row)| has(left, u) && size(*row & left) < k)

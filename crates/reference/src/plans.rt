@@ -62,7 +62,7 @@ fn plan_of(day: &Day, query: u64, parts: usize, cutting: u64) -> Plan {
 pub fn best_plan(day: &Day, query: u64, parts: usize) -> Bytes {
     let best = (0..CUTTINGS)
         .map(|cutting| plan_of(day, query, parts, cutting))
-        .filter(|plan| plan.parts == parts)
+        .filter(|plan| 0 < parts && plan.parts == parts)
         .reduce(|best, plan| if best.sum < plan.sum { plan } else { best });
     match best {
         Some(mut plan) => {

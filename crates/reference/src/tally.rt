@@ -33,12 +33,13 @@ impl Tally {
     }
 
     // Prints the line of a family, and adds its counts to those of the families before it.
-    pub fn print(&mut self, rt: &impl Print, name: &str, family: Tally) -> io::Result<()>
+    pub fn print(&mut self, rt: &impl Print, name: &[u8], family: Tally) -> io::Result<()>
         ensures run { OnOk result (self.new.run ≡ sum self.old.run family.run) }
         ensures wrong { OnOk result (self.new.wrong ≡ sum self.old.wrong family.wrong) }
         ensures err { OnErr result (self.new ≡ self.old) }
     {
-        println!(rt; "{name}: {family}")?;
+        rt.write_all(name)?;
+        println!(rt; ": {family}")?;
         self.add(family);
         Ok(())
     }

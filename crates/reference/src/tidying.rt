@@ -1,6 +1,6 @@
 // The tidy log of a day, found slowly: every pair is looked up in every tick.
 use crate::bytes::{BH, Bytes, CONTACT_BYTES};
-use crate::day::{Day, Span};
+use crate::day::{Day, Span, sets_for};
 
 // The run of contact of badges u and v that begins with a tick, if one does.
 fn run_from(day: &Day, u: usize, v: usize, first: usize) -> Option<Span> {
@@ -29,12 +29,15 @@ fn put_badge(log: &mut Bytes, day: &Day, u: usize) {
     }
 }
 
-// The tidy log of a day for which a log has room. A contact has six bytes and the header fewer, so that a sixth of the bytes is the number of
-// contacts.
+// The tidy log of a day for which a log has room; no bytes for n 0, which is no day. A contact has six bytes and the header fewer, so that a sixth of
+// the bytes is the number of contacts.
 pub fn tidy_log(day: &Day) -> Bytes {
     let mut log = Bytes::new();
+    if day.badges == 0 {
+        return log;
+    }
     log.put_record(BH, &[day.badges, day.ticks]);
-    for u in 0..day.badges {
+    for u in 0..sets_for(day.badges, 1) {
         put_badge(&mut log, day, u);
     }
     log.put_end(log.len() / CONTACT_BYTES);

@@ -1,12 +1,11 @@
 // The words that a call leaves which reads a log. The word that a log says is found slowly, by looking at each of its contacts.
 ghost use Rattle.std.specs.Prelude.{◌≡◌, ◌≤◌, IfOk};
 ghost use Rattle.reference.specs.Verdicts.{pattern};
-ghost use Rattle.reference.specs.declared.limits.TheConstants.{MAX_WORDS};
 
 use crate::bits::with;
 use crate::bytes::{CONTACT_BYTES, HEADER_BYTES, rest_of};
+use crate::day::sets_for;
 use crate::judging::Judgement;
-use crate::limits::MAX_WORDS;
 
 // What each word holds before a call.
 pub const PATTERN: u64 = 0xa5c3_96f0_5a3c_690f;
@@ -38,13 +37,13 @@ fn partners(log: &[u8], t: usize, u: usize) -> u64 {
 // Word i as a call leaves it that reads a log: one of the day's, where the log is accepted, and else the pattern.
 pub fn word_after(log: &[u8], judged: Judgement, i: usize) -> u64
     ensures refused { IfOk judged (λ log. log.badges ≡ 0) → result ≡ pattern }
-    ensures after { MAX_WORDS ≤ i → result ≡ pattern }
+    ensures after { 12288 ≤ i → result ≡ pattern }
 {
     let Ok(day) = judged else {
         return PATTERN;
     };
     let set = i / 2;
-    if day.badges == 0 || MAX_WORDS <= i || day.ticks <= set / day.badges {
+    if day.badges == 0 || sets_for(day.badges, day.ticks) <= set {
         return PATTERN;
     }
     if i % 2 == 1 {
