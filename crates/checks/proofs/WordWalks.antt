@@ -7,13 +7,7 @@ use Rattle.std.specs.Prelude.{Some}
 use Rattle.sets.specs.Sets.{difference, only, TakesSmallest}
 use Rattle.sets.specs.Words.{word_bits, in_word}
 use Rattle.sets.proofs.Smallest.{without-smallest}
-use Rattle.sets.proofs.Sets.{sub_refl, sub-lt}
-use Rattle.sets.proofs.Walks.{unseen-less}
 use Rattle.sets.proofs.InWord.{word-rest}
-
--- fewer badges are left after its turn, and the word has no other
-pub word-fewer : (w b : ℕ) {rest : ℕ} → TakesSmallest word_bits w (Some b) rest → w < 2 ^ word_bits → rest < 2 ^ word_bits
-word-fewer w b t l = rw t.2 (sub-lt word_bits _ w (unseen-less b (sub_refl w)) l)
 
 -- what is left of a word on a walk over it, after the turn of its smallest badge
 pub word-without : (i w b : ℕ) {rest : ℕ} → w < 2 ^ word_bits → TakesSmallest word_bits w (Some b) rest → in_word i rest ≡ difference (in_word i w) (only (i * word_bits + b))

@@ -1,12 +1,12 @@
 // Peeling: badges of low degree are dropped until none is left to drop.
 ghost use Rattle.std.specs.Prelude.{◌≡◌, ◌<◌, length};
 ghost use Rattle.sets.specs.Members.{members, capacity, row_words};
-ghost use Rattle.sets.specs.Words.{words_of};
+ghost use Rattle.sets.specs.Words.{set_words, words_of};
 ghost use Rattle.cores.specs.Graphs.{degree};
 ghost use Rattle.cores.specs.Rows.{graph, kept_rows, IsPeeled};
-ghost use Rattle.cores.specs.Passes.{LookedAt, Passed, IsCoreKept};
+ghost use Rattle.cores.specs.Passes.{LookedAt, WordSeen, Passed, IsCoreKept};
 
-use sets::{BadgeSet, CAPACITY, ROW_WORDS, SET_WORDS, put_set, set_at};
+use sets::{BadgeSet, CAPACITY, Ones, ROW_WORDS, SET_WORDS, WORD_BITS, put_set, set_at};
 
 // What is left of a set while badges are dropped, and the least degree among those that were kept; the capacity where none was. (No Option, since `peel`
 // promises that number for nobody.)
@@ -52,7 +52,21 @@ fn look_at(rows: &[u64; ROW_WORDS], kept: Kept, order: usize, u: usize) -> Kept
     kept
 }
 
-// One pass over the members of a set, the smallest first: each that has too few neighbours in what is left then is dropped.
+// Looks at the members of a set that are in its word i, the smallest first: each that has too few neighbours in what is left then is dropped. (A walk over
+// the whole set takes a third more instructions, and twice the time, in core numbers: of a badge of one word it is known in which word it is dropped.)
+fn look_at_word(rows: &[u64; ROW_WORDS], start: Kept, s: BadgeSet, i: usize, order: usize) -> Kept
+    requires { i < set_words }
+    ensures { WordSeen (graph rows.now) order (members s) i (members start.members) start.least (members result.members) result.least }
+{
+    let mut kept = start;
+    let word = s.word(i);
+    for place in (Ones { word }) {
+        kept = look_at(rows, kept, order, i * WORD_BITS + place);
+    }
+    kept
+}
+
+// One pass over the members of a set, word by word: each that has too few neighbours in what is left then is dropped.
 fn pass(rows: &[u64; ROW_WORDS], s: BadgeSet, order: usize) -> Kept
     ensures { Passed (graph rows.now) order (members s) (members result.members) result.least }
 {
@@ -60,8 +74,8 @@ fn pass(rows: &[u64; ROW_WORDS], s: BadgeSet, order: usize) -> Kept
         members: s,
         least: CAPACITY,
     };
-    for u in s.badges() {
-        kept = look_at(rows, kept, order, u);
+    for i in 0..SET_WORDS {
+        kept = look_at_word(rows, kept, s, i, order);
     }
     kept
 }

@@ -10,11 +10,13 @@ use lib.Bits.{bit_and}
 use lib.Dec.{lit<}
 use lib.ListN.{length, get_or, get_or-eq_default}
 use lib.Pow.{pow_pos, pow-add}
-use Rattle.sets.specs.Sets.{bit, In, Sub, difference, only, set_of, full, smallest, union}
+use Rattle.std.specs.Prelude.{Some}
+use Rattle.sets.specs.Sets.{bit, In, Sub, difference, only, set_of, full, smallest, union, TakesSmallest}
 use Rattle.sets.specs.Words.{word_bits, in_word, to_words, lower_words}
 use Rattle.sets.specs.Members.{capacity}
-use Rattle.sets.proofs.Sets.{not-in-none, in-difference, of-difference, difference-none, in-only, of-only, in-lt, in-full, of-full, ext, in-union-left, in-union-right, of-union}
+use Rattle.sets.proofs.Sets.{not-in-none, in-difference, of-difference, difference-none, in-only, of-only, in-lt, in-full, of-full, ext, in-union-left, in-union-right, of-union, sub_refl, sub-lt}
 use Rattle.sets.proofs.Smallest.{smallest-member, without-smallest}
+use Rattle.sets.proofs.Walks.{unseen-less}
 use Rattle.sets.proofs.Blocks.{bit-low, bit_high}
 use Rattle.sets.proofs.Words.{words-bit, to-words-words, from-to-words}
 
@@ -183,3 +185,15 @@ module _ (s i w b : ℕ) (l : w < 2 ^ word_bits) (f : w ≡ 0 → ⊥) (e : b �
           → In (union (difference (in_word i w) (only (i * word_bits + b))) (difference s (full ((i + 1) * word_bits)))) v
       back v k (inl h) = in-union-left _ _ v (in-difference (in_word i w) _ v h k)
       back v k (inr h) = in-union-right _ _ v h
+
+-- a turn of a walk over w that takes its smallest badge: fewer badges are left after it, and the word has no other
+pub word-fewer : (w b : ℕ) {rest : ℕ} → TakesSmallest word_bits w (Some b) rest → w < 2 ^ word_bits → rest < 2 ^ word_bits
+word-fewer w b t l = rw t.2 (sub-lt word_bits _ w (unseen-less b (sub_refl w)) l)
+
+-- the badge is one of those unseen, and the others are left
+pub unseen-taken : (s i w b : ℕ) {rest : ℕ} → w < 2 ^ word_bits → TakesSmallest word_bits w (Some b) rest
+    → In (unseen_at s i w) (i * word_bits + b) × (unseen_at s i rest ≡ difference (unseen_at s i w) (only (i * word_bits + b)))
+unseen-taken s i w b {rest} l t =
+    let f : w ≡ 0 → ⊥ = λ e. omega arith in
+    let r : rest ≡ bit_and w (w - 1) = t.2 ∙ ap (λ (u : ℕ). difference w (only u)) t.1 ∙ sym (without-smallest word_bits w l f) in
+    (unseen-at-hand s i w b l f t.1, ap (unseen_at s i) r ∙ unseen-rest s i w b l f t.1)

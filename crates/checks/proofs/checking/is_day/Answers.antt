@@ -25,8 +25,7 @@ use Rattle.days.proofs.Days.{tick-fits, tick-same}
 use Rattle.days.proofs.Scan.{day-in}
 use Rattle.checks.specs.Changes.{change_at}
 use Rattle.checks.specs.Scan.{Passed}
-use Rattle.sets.proofs.InWord.{only-word, lowest-word}
-use Rattle.checks.proofs.WordWalks.{word-fewer}
+use Rattle.sets.proofs.InWord.{only-word, lowest-word, word-fewer}
 use Rattle.checks.proofs.Walk.{walk_none, walk-member, walk-broken, walk_more, walk-done}
 use Rattle.checks.proofs.KnownRows.{tick_words, tick-set, tick-none, Put, put-row}
 use Rattle.checks.proofs.Scan.{day-broken, row-changed, row_same, change-lowest, same-toggled, rows_same, rows-below, below_rows}

@@ -9,9 +9,9 @@ use Rattle.sets.specs.Sets.{In, symmetric_difference, only}
 use Rattle.sets.specs.Words.{word_bits, to_words, lower_words, in_word, set_at, put_set}
 use Rattle.sets.proofs.Bits.{one_shl}
 use Rattle.sets.proofs.Bools.{clash}
-use Rattle.sets.proofs.InWord.{at-hand, only-word, word_none}
+use Rattle.sets.proofs.InWord.{at-hand, only-word, word_none, word-fewer}
 use Rattle.checks.specs.Changes.{change_at}
-use Rattle.checks.proofs.WordWalks.{word-without, word-fewer}
+use Rattle.checks.proofs.WordWalks.{word-without}
 use Rattle.checks.proofs.KnownRows.{Put, put-row}
 use Rattle.checks.proofs.Walk.{walk_more}
 use Rattle.checks.proofs.UpperWalk.{upper-none, upper-broken, upper-done}

@@ -1,28 +1,28 @@
--- `peeling::pass` meets its contract. What is left holds every cohesive subset of the set; while nobody is dropped, the members that are
--- no longer to come have neighbours enough, and the smallest of their degrees is at hand.
-use Prim.Native.Nat.{◌<◌}
+-- `peeling::pass` meets its contract. What is left holds every cohesive subset of the set; while nobody is dropped, the members no
+-- longer unseen have neighbours enough, and the smallest of their degrees is at hand. Before a turn those from word i on are unseen.
+use mathlib.Core.Path.{◌≡◌}
+use Prim.Native.Nat.{◌*◌, ◌^◌, ◌<◌}
 use native.Mathlib.Omega.{arith}
-use Rattle.sets.specs.Sets.{In}
+use Rattle.sets.specs.Words.{word_bits}
 use Rattle.sets.specs.Members.{capacity, members}
 use Rattle.sets.proofs.Size.{size-le}
 use Rattle.sets.proofs.Pairs.{members-lt}
-use Rattle.sets.proofs.Walks.{at-turn}
-use Rattle.cores.proofs.Peelings.{pass-none, pass-more, pass-done}
+use Rattle.sets.proofs.InWord.{from-first-word, from-last-word}
+use Rattle.cores.proofs.Peelings.{pass-none, pass-done}
 use Rattle.cores.proofs.peeling.pass.Goals as goal
-use Rattle.cores.proofs.peeling.pass.Goals.{In-Some}
+use Rattle.cores.proofs.peeling.pass.Goals.{Start}
 
-pub loop-u-init : goal.loop-u-init
-loop-u-init c = rw (c.into_iter-u-iterator.ensures.into_iter_gives, c.badges-u-items.ensures) (pass-none _ _ _)
+wide : (c : goal.Start) → members c.args.s < 2 ^ capacity
+wide c = members-lt c.args.s (omega arith) (omega arith)
 
--- the badge at hand is one of those to come, and below the capacity
-here : (c : goal.In-Some) → In (members c.loop-u.u-iterator.left) c.in-Some.u × (c.in-Some.u < capacity)
-here c = at-turn c.loop-u.invariant.subset (members-lt c.args.s (omega arith) (omega arith)) c.in-Some.ensures.steps
+pub loop-i-init : goal.loop-i-init
+loop-i-init c = (omega arith, rw (from-first-word _ (wide (goal.at.loop-i-init c).Start)) (pass-none _ _ _))
 
-pub look_at-kept-requires : goal.look_at-kept-requires
-look_at-kept-requires c = (here (goal.at.look_at-kept-requires c).In-Some).1
-
-pub loop-u-preserved : goal.loop-u-preserved
-loop-u-preserved c = rw c.in-Some.ensures.steps.2 (pass-more c.loop-u.invariant _ (here (goal.at.loop-u-preserved c).In-Some).0 c.look_at-kept.ensures)
+pub loop-i-preserved : goal.loop-i-preserved
+loop-i-preserved c = (omega arith, c.look_at_word-kept.ensures c.loop-i.invariant.1)
 
 pub returns : goal.returns
-returns c = pass-done c.loop-u.invariant (size-le capacity _ (members-lt c.args.s (omega arith) (omega arith))) c.in-None.ensures.steps.0
+returns c =
+    let w = wide (goal.at.returns c).Start in
+    let e : c.loop-i.i * word_bits ≡ capacity = omega arith in
+    pass-done c.loop-i.invariant.1 (size-le capacity _ w) (rw e (from-last-word _ w))

@@ -10,9 +10,9 @@ use Rattle.sets.specs.Members.{capacity}
 use Rattle.sets.specs.Words.{word_bits, in_word}
 use Rattle.sets.proofs.Sets.{sub_refl}
 use Rattle.sets.proofs.Tables.{tabulate-is}
-use Rattle.sets.proofs.InWord.{at-hand, word_none}
+use Rattle.sets.proofs.InWord.{at-hand, word_none, word-fewer}
 use Rattle.sets.proofs.Walks.{unseen-less, fill_start, fill-next, fill-unseen, fill_end}
-use Rattle.checks.proofs.WordWalks.{word-without, word-fewer}
+use Rattle.checks.proofs.WordWalks.{word-without}
 use Rattle.logs.specs.TickSets.{united}
 use Rattle.logs.proofs.columns.unite.Goals as goal
 use Rattle.logs.proofs.columns.unite.Goals.{In-Some}

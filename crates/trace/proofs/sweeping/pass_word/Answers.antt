@@ -7,8 +7,8 @@ use borrow.Author.Rules.{rules}
 use Rattle.sets.specs.Sets.{In}
 use Rattle.sets.specs.Words.{word_bits, in_word}
 use Rattle.sets.proofs.Sets.{of-full, sub_refl, sub_trans}
-use Rattle.sets.proofs.InWord.{at-hand, word_none}
-use Rattle.checks.proofs.WordWalks.{word-without, word-fewer}
+use Rattle.sets.proofs.InWord.{at-hand, word_none, word-fewer}
+use Rattle.checks.proofs.WordWalks.{word-without}
 use Rattle.sets.proofs.Walks.{unseen-less}
 use Rattle.trace.proofs.Turns.{shown-long, turned_more}
 use Rattle.trace.proofs.WordTurns.{left-start, left_in, left-more, left_end}
