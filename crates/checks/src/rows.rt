@@ -1,5 +1,5 @@
 // Rows in an array, a set for each badge that a set can hold: the words of one tick copied there, and the badges that are in them.
-ghost use Rattle.std.specs.Prelude.{◌≡◌, ◌+◌, ◌<◌};
+ghost use Rattle.std.specs.Prelude.{◌≡◌, ◌++◌, ◌+◌, ◌≤◌, ◌<◌, length, take, drop};
 ghost use Rattle.sets.specs.Members.{capacity, members};
 ghost use Rattle.sets.specs.Words.{set_at, words_of};
 ghost use Rattle.checks.specs.Arrays.{tick_over, in_use, union_of};
@@ -7,12 +7,23 @@ ghost use Rattle.checks.specs.Changes.{UnionOver};
 
 use sets::{BadgeSet, CAPACITY, ROW_WORDS, SET_WORDS, WORD_BITS, set_at};
 
+// Copies the first words of a tick over those of rows. (By index: the library's copy would need `memmove` of whoever links the calls for C, who need only
+// `memcpy` and `memset` of him.)
+fn copy_words(rows: &mut [u64], tick: &[u64], count: usize)
+    requires { (count ≤ length rows.old) × (count ≤ length tick.now) }
+    ensures { rows.new ≡ take count tick.now ++ drop count rows.old }
+{
+    for i in 0..count {
+        rows[i] = tick[i];
+    }
+}
+
 // Copies the sets of one tick over the rows: as many as there are rows, and where it has fewer, the other rows stay.
 pub fn copy_tick(rows: &mut [u64; ROW_WORDS], tick: &[u64])
     ensures { rows.new ≡ words_of (tick_over tick.now rows.old) }
 {
     let count = SET_WORDS * CAPACITY.min(tick.len() / SET_WORDS);
-    rows[..count].copy_from_slice(&tick[..count]);
+    copy_words(rows, tick, count);
 }
 
 // The badges that are in one of two rows.

@@ -7,7 +7,8 @@ ghost use Rattle.logs.specs.Writing.{Appends};
 
 use records::{MAX_CONTACTS, MAX_LOG_BYTES, Record};
 
-// Lays bytes over a buffer from an offset on. Where the buffer does not hold them there, it stays as it is.
+// Lays bytes over a buffer from an offset on. Where the buffer does not hold them there, it stays as it is. (By index: the library's copy would need
+// `memmove` of whoever links the calls for C, who need only `memcpy` and `memset` of him.)
 pub fn put(buffer: &mut [u8], at: usize, bytes: &[u8])
     ensures { buffer.new ≡ place at bytes.now buffer.old }
 {
@@ -17,7 +18,9 @@ pub fn put(buffer: &mut [u8], at: usize, bytes: &[u8])
     if buffer.len() - bytes.len() < at {
         return;
     }
-    buffer[at..at + bytes.len()].copy_from_slice(bytes);
+    for i in 0..bytes.len() {
+        buffer[at + i] = bytes[i];
+    }
 }
 
 // Puts a record, in its bytes, at an offset. Where the buffer does not hold it there, it stays as it is.
