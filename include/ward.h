@@ -12,7 +12,7 @@
  *   - `answer` points to five numbers.
  *
  * A call uses the caller's stack, as it was measured (tests/stack-use.sh) and not proved: ward_read and ward_join under 1 KB, ward_trace 3,
- * ward_core_numbers 5, ward_plan 31, ward_write 50, ward_tidy 50, ward_report 97; so each of them less than 256 KB.
+ * ward_core_numbers 7, ward_plan 31, ward_write 50, ward_tidy 50, ward_report 97; so each of them less than 256 KB.
  *
  * Every call writes all five numbers of `answer`. On a refusal the first is its number and the second its byte offset, and the others are
  * 0; a refused call changes nothing else, except that ward_tidy refused by WARD_BUFFER_TOO_SHORT leaves the day in its work words. On

@@ -1,6 +1,6 @@
 /* Measures the stack that each call through the C interface uses. Makes it on a stack of its own, painted with a pattern, above a page that cannot be
  * touched, on days and logs of the largest size, and looks for the deepest byte that changed. Prints the most that each call used, in KB of 1,024
- * bytes. Its status is 1 where that is 256 KB or more, or where a call was never measured to its end. */
+ * bytes. Its status is 1 where that is more than ward.h says, or where a call was never measured to its end. */
 #define _DEFAULT_SOURCE
 #include <stdio.h>
 #include <stdlib.h>
@@ -10,11 +10,13 @@
 
 #include "ward.h"
 
-enum { PAGE = 4096, STACK = 1 << 20, LIMIT = 256 << 10, N = 128, TICKS = 96, RECORDS = 8000, LOGS = 4 };
+enum { PAGE = 4096, STACK = 1 << 20, N = 128, TICKS = 96, RECORDS = 8000, LOGS = 4 };
 enum { READ, JOIN, TIDY, WRITE, TRACE, CORE_NUMBERS, REPORT, PLAN, CALLS };
 
 static const char *const names[CALLS] = {"ward_read",  "ward_join",         "ward_tidy",   "ward_write",
                                          "ward_trace", "ward_core_numbers", "ward_report", "ward_plan"};
+/* The KB that ward.h says of each. */
+static const size_t stated[CALLS] = {1, 1, 50, 50, 3, 7, 97, 31};
 
 /* What the next call takes, and what the calls fill. */
 static int call;
@@ -186,7 +188,7 @@ int main(void) {
     }
     for (int which = 0; which < CALLS; which++) {
         printf("%s: %.1f KB\n", names[which], (double)most[which] / 1024);
-        wrong |= most[which] >= LIMIT || succeeded[which] == 0;
+        wrong |= most[which] > stated[which] << 10 || succeeded[which] == 0;
     }
     return wrong;
 }

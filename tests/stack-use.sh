@@ -1,5 +1,5 @@
 #!/usr/bin/env bash
-# Measures the stack that each call through the C interface uses, on days and logs of the largest size; each must stay under 256 KB.
+# Measures the stack that each call through the C interface uses, on days and logs of the largest size; none may use more than ward.h says.
 # Needs cc, and crates/ward/out/libward.a, which `rt lib` in crates/ward writes. Says '1 passed, 0 failed' where each does.
 set -euo pipefail
 cd "$(dirname "${BASH_SOURCE[0]}")/.."

@@ -19,8 +19,9 @@ use Rattle.thresholds.specs.declared.Thresholds.{Thresholds}
 use Rattle.spans.specs.SpanCores.{SpanCore, Mem}
 use Rattle.spans.specs.KeptGroups.{kept}
 use Rattle.spans.proofs.KeptRecords.{kept-le, kept_append, of-kept}
-use Rattle.groups.specs.Keeping.{kept_core, said, with_circles, total, KeepsCores, line_list, circles_at, large_at}
+use Rattle.groups.specs.Keeping.{kept_core, stored_core, said, with_circles, total, KeepsCores, line_list, circles_at, large_at}
 use Rattle.groups.specs.declared.kept.Kept.{Kept}
+use Rattle.groups.specs.declared.kept.Stored.{Stored}
 use Rattle.groups.specs.declared.lines.Found.{Found}
 use Rattle.groups.specs.Lines.{at}
 use Rattle.groups.specs.declared.kept.Cores.{Cores}
@@ -70,12 +71,16 @@ module _ {circles large : SpanCore → ℕ} where
   }
 
 -- one core, after those that are kept
-pub keeps-one : (k : Kept) {large : ℕ} {x y : Cores} → x.count < length x.kept → y.count ≡ x.count + 1 → y.records ≡ x.records + large → y.kept ≡ set x.kept x.count k
+pub keeps-one : (k : Kept) (s : Stored) {large : ℕ} {x y : Cores} → said s ≡ (kept_core k, k.circles) → x.count < length x.kept → y.count ≡ x.count + 1 → y.records ≡ x.records + large → y.kept ≡ set x.kept x.count s
     → KeepsCores (λ d. k.circles) (λ d. large) (kept_core k ∷ []) x y
-unfolding total said with_circles
-keeps-one k {large} {x} {y} l number records e =
-    let first : take y.count y.kept ≡ take x.count x.kept ++ (k ∷ []) = rw (number, e, add-one) (take-suc-set x.kept x.count k l) in
-    record { number = number; made = omega (arith, records); in_kept = ap (map said) first ∙ map-append said (take x.count x.kept) (k ∷ []) }
+unfolding total with_circles
+keeps-one k s {large} {x} {y} said-is l number records e =
+    let first : take y.count y.kept ≡ take x.count x.kept ++ (s ∷ []) = rw (number, e, add-one) (take-suc-set x.kept x.count s l) in record {
+      number = number;
+      made = omega (arith, records);
+      in_kept =
+          ap (map said) first ∙ map-append said (take x.count x.kept) (s ∷ []) ∙ ap (λ (p : SpanCore × ℕ). map said (take x.count x.kept) ++ (p ∷ [])) said-is;
+    }
 
 -- ---- the spans with one first tick
 
@@ -148,9 +153,14 @@ module _ (line : List Found) (first : ℕ) where
 
 -- ---- the core at a place
 
+-- what a place says, by the core that is read there
+pub from-said : (s : Stored) (k : Kept) → said s ≡ (kept_core k, k.circles) → (kept_core k ≡ stored_core s) × (k.circles ≡ s.circles)
+unfolding said
+from-said s k e = (sym (ap (λ (p : SpanCore × ℕ). p.0) e), sym (ap (λ (p : SpanCore × ℕ). p.1) e))
+
 -- the place at which a core of a list is kept says it, and how many circles it has
-pub kept_at : (circles : SpanCore → ℕ) (kept : List Kept) (xs : List SpanCore) (c : SpanCore) (ys : List SpanCore) → map said kept ≡ map (with_circles circles) (xs ++ (c ∷ ys)) → {i : ℕ} → i ≡ length xs → (d : Kept)
-    → let k = get_or kept i d in (kept_core k ≡ c) × (k.circles ≡ circles c)
+pub kept_at : (circles : SpanCore → ℕ) (kept : List Stored) (xs : List SpanCore) (c : SpanCore) (ys : List SpanCore) → map said kept ≡ map (with_circles circles) (xs ++ (c ∷ ys)) → {i : ℕ} → i ≡ length xs → (d : Stored)
+    → let k = get_or kept i d in (stored_core k ≡ c) × (k.circles ≡ circles c)
 unfolding said with_circles
 kept_at circles kept xs c ys e {i} t d =
     let f : said (get_or kept i d) ≡ with_circles circles c =

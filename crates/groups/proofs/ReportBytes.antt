@@ -35,8 +35,8 @@ use Rattle.spans.proofs.CircleStated.{core-span, core-inside, core-small}
 use Rattle.spans.proofs.Forms.{marked}
 use Rattle.spans.proofs.MostGroups.{report-length}
 use Rattle.spans.proofs.MostRecords.{records_few, most-small}
-use Rattle.groups.specs.Keeping.{kept_core, with_circles, total, circle_count, record_count, FindsCores}
-use Rattle.groups.specs.declared.kept.Kept.{Kept}
+use Rattle.groups.specs.Keeping.{stored_core, with_circles, total, circle_count, record_count, FindsCores}
+use Rattle.groups.specs.declared.kept.Stored.{Stored}
 use Rattle.groups.specs.declared.kept.Cores.{Cores}
 use Rattle.groups.specs.Appending.{AppendsCores, large_records, CoreToSplit, shown_bytes, ReportCores, EncodesReport, DeliversReport}
 use Rattle.groups.proofs.Appended.{further, appends-none, appends-then}
@@ -177,14 +177,14 @@ module _ {n T : ℕ} {ws : List ℕ} {base : ℕ} {least : Thresholds} {found : 
       core-in = subst (λ (cs : List SpanCore). Mem core cs) (sym apart) (Memᴰ.append_right s.done (Memᴰ.head refl))
 
       -- what is kept at the place says the core
-      module _ (d : Kept) {f : Form} (same : f ≡ form_of n) where
-        abbrev k : Kept
+      module _ (d : Stored) {f : Form} (same : f ≡ form_of n) where
+        abbrev k : Stored
         k = get_or (take found.count found.kept) i d
 
-        told : (kept_core k ≡ core) × (k.circles ≡ circle_count n ws core)
+        told : (stored_core k ≡ core) × (k.circles ≡ circle_count n ws core)
         told = kept_at (circle_count n ws) (take found.count found.kept) s.done core after (p.found.in_kept ∙ ap (map (with_circles (circle_count n ws))) apart) s.turn d
 
-        pub written-split : CoreToSplit n T ws least.members (kept_core k) k.circles f.set_bytes count buffer
+        pub written-split : CoreToSplit n T ws least.members (stored_core k) k.circles f.set_bytes count buffer
         unfolding circle_count record_count circle_records
         written-split = rw (same, told.0) (record {
           rising = here.rising;
@@ -207,7 +207,7 @@ module _ {n T : ℕ} {ws : List ℕ} {base : ℕ} {least : Thresholds} {found : 
               length-append (kept least (records_of n ws core)) (kept least (circle_records n ws after)),
             )
 
-        pub written-more : {count' first' last' : ℕ} {rows' buffer' : List ℕ} → AppendsCores f.group f.set_bytes 4 (large_records (kept_core k) least.members (circles_of n ws (kept_core k))) count count' buffer buffer'
+        pub written-more : {count' first' last' : ℕ} {rows' buffer' : List ℕ} → AppendsCores f.group f.set_bytes 4 (large_records (stored_core k) least.members (circles_of n ws (stored_core k))) count count' buffer buffer'
             → rows' ≡ span_words n ws first' last' → ReportSoFar n T ws base least (i + 1) count' first' last' rows' buffer₀ buffer'
         unfolding circle_records
         written-more {count'} {first'} {last'} {rows'} {buffer'} a e =

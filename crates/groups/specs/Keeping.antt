@@ -2,7 +2,8 @@
 use Rattle.std.specs.Prelude.{List, [], ◌∷◌, ◌++◌, map, ◌≡◌, ℕ, suc, ◌+◌, ◌-◌, ◌≤◌, ◌<◌, leb, ltb, length, take}
 use Rattle.sets.specs.Bools.{◌and◌}
 use Rattle.sets.specs.Tables.{concat_below, keep_if}
-use Rattle.sets.specs.Members.{members}
+use Rattle.std.specs.Int.{w64, from_le_bytes}
+use Rattle.sets.specs.Members.{set_of_two, members}
 use Rattle.records.specs.Limits.{max_ticks}
 use Rattle.circles.specs.Circles.{at_least}
 use Rattle.thresholds.specs.declared.Thresholds.{Thresholds}
@@ -13,6 +14,7 @@ use Rattle.spans.specs.CircleRecords.{circles_of}
 use Rattle.spans.specs.Encoding.{max_cores}
 use Rattle.groups.specs.declared.encoding.Shown.{Shown}
 use Rattle.groups.specs.declared.kept.Kept.{Kept}
+use Rattle.groups.specs.declared.kept.Stored.{Stored}
 use Rattle.groups.specs.declared.kept.Cores.{Cores}
 use Rattle.groups.specs.declared.lines.Found.{Found}
 use Rattle.groups.specs.Lines.{at}
@@ -21,13 +23,17 @@ use Rattle.groups.specs.Lines.{at}
 abbrev pub core_of : Shown → SpanCore
 core_of r = record { order = r.order; first = r.first; last = r.last; members = members r.members }
 
--- the core that is kept at a place
+-- the core that is kept
 abbrev pub kept_core : Kept → SpanCore
 kept_core k = record { order = k.order; first = k.first; last = k.last; members = members k.members }
 
--- what a place says: the core, and how many circles it has
-unfoldable pub said : Kept → SpanCore × ℕ
-said k = (kept_core k, k.circles)
+-- the core that a place says, the words of its members in bytes
+abbrev pub stored_core : Stored → SpanCore
+stored_core s = record { order = s.order; first = s.first; last = s.last; members = set_of_two (from_le_bytes w64 s.lower) (from_le_bytes w64 s.upper) }
+
+-- what it says: the core, and how many circles it has
+unfoldable pub said : Stored → SpanCore × ℕ
+said s = (stored_core s, s.circles)
 
 unfoldable pub with_circles : (SpanCore → ℕ) → SpanCore → SpanCore × ℕ
 with_circles circles c = (c, circles c)

@@ -8,8 +8,7 @@ use sets::BadgeSet;
 // A day has no more maximal cores than spans.
 pub(crate) const MAX_CORES: usize = MAX_TICKS * (MAX_TICKS + 1) / 2;
 
-// A core that is kept: its order, its span and its members, and how many circles it has. Its fields are those of a record, and stand side by side: a struct in
-// this struct would make it longer, and all places are cleared in each report.
+// A core: its order, its span and its members, and how many circles it has.
 #[derive(Clone, Copy)]
 pub(crate) struct Kept {
     pub(crate) order: u8,
@@ -19,10 +18,55 @@ pub(crate) struct Kept {
     pub(crate) members: BadgeSet,
 }
 
+// What is kept of a core: its members are the bytes of two words, since words would stand at a multiple of eight bytes, and four bytes more at each of all
+// these places would be lost; they are cleared in each report, and lie on the stack of whoever calls.
+#[derive(Clone, Copy)]
+pub(crate) struct Stored {
+    order: u8,
+    first: u8,
+    last: u8,
+    circles: u8,
+    lower: [u8; 8],
+    upper: [u8; 8],
+}
+
+impl Stored {
+    ghost use Rattle.std.specs.Prelude.{◌≡◌};
+    ghost use Rattle.groups.specs.Keeping.{kept_core, said};
+
+    fn of(core: Kept) -> Stored
+        ensures { said result ≡ (kept_core core, core.circles) }
+    {
+        Stored {
+            order: core.order,
+            first: core.first,
+            last: core.last,
+            circles: core.circles,
+            lower: core.members.low.to_le_bytes(),
+            upper: core.members.high.to_le_bytes(),
+        }
+    }
+
+    // The core that is said.
+    pub(crate) fn core(self) -> Kept
+        ensures { said self ≡ (kept_core result, result.circles) }
+    {
+        let low = u64::from_le_bytes(self.lower);
+        let high = u64::from_le_bytes(self.upper);
+        Kept {
+            order: self.order,
+            first: self.first,
+            last: self.last,
+            circles: self.circles,
+            members: BadgeSet::from_words(low, high),
+        }
+    }
+}
+
 // The cores that are kept: so many, which make so many records.
 #[derive(Drop)]
 pub(crate) struct Cores {
-    kept: [Kept; MAX_CORES],
+    kept: [Stored; MAX_CORES],
     count: usize,
     records: usize,
     ghost few: { count ≤ max_cores },
@@ -37,12 +81,13 @@ impl Cores {
     pub(crate) fn new() -> Self
         ensures { result.count ≡ 0 }
     {
-        let none = Kept {
+        let none = Stored {
             order: 0,
             first: 0,
             last: 0,
             circles: 0,
-            members: BadgeSet::EMPTY,
+            lower: [0; 8],
+            upper: [0; 8],
         };
         Cores {
             kept: [none; MAX_CORES],
@@ -52,7 +97,7 @@ impl Cores {
     }
 
     // The cores, in the order in which they were kept.
-    pub(crate) fn all(&self) -> &[Kept]
+    pub(crate) fn all(&self) -> &[Stored]
         ensures { result.now ≡ take self.now.count self.now.kept }
     {
         &self.kept[..self.count]
@@ -70,7 +115,7 @@ impl Cores {
         requires { self.old.count < max_cores }
         ensures { KeepsCores (λ c. core.circles) (λ c. large) (kept_core core ∷ []) self.old self.new }
     {
-        self.kept[self.count] = core;
+        self.kept[self.count] = Stored::of(core);
         self.count += 1;
         self.records += usize::from(large);
     }

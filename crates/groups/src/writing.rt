@@ -84,8 +84,9 @@ pub(crate) fn write_report(day: &Day, least: Thresholds, cores: &Cores, buffer: 
         count: 0,
         at: Span { first: 0, last: 0 },
     };
-    for core in cores.all() {
-        walked = append_core(day, &mut rows, *core, least.members, form, buffer, walked);
+    for stored in cores.all() {
+        let core = stored.core();
+        walked = append_core(day, &mut rows, core, least.members, form, buffer, walked);
     }
     put_record(
         buffer,

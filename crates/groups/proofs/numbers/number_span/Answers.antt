@@ -12,7 +12,7 @@ use Rattle.records.specs.Outcomes.{Outcome, success}
 use Rattle.records.proofs.WithinLimits.{limits_of}
 use Rattle.logs.specs.Buffers.{deliver}
 use Rattle.cores.specs.Rows.{core_numbers}
-use Rattle.spans.specs.Judging.{core_number_bytes, span_judged}
+use Rattle.spans.specs.Judging.{span_judged}
 use Rattle.spans.proofs.Judging.{judged-yes, judged-no}
 use Rattle.groups.proofs.RowCores.{numbers-found}
 use Rattle.groups.proofs.numbers.number_span.Goals as goal

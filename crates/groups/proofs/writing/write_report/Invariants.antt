@@ -3,6 +3,6 @@ use Rattle.sets.specs.Members.{members}
 use Rattle.groups.proofs.ReportBytes.{ReportSoFar}
 use Rattle.groups.proofs.writing.write_report.Given as goal
 
-abbrev pub invariant-loop-core : goal.invariant-loop-core
-invariant-loop-core l =
-    ReportSoFar l.day.badges l.day.ticks l.day.words.now (members l.day.review) l.least l.core-index l.walked.count l.walked.at.first l.walked.at.last l.rows l.initial.buffer l.buffer
+abbrev pub invariant-loop-stored : goal.invariant-loop-stored
+invariant-loop-stored l =
+    ReportSoFar l.day.badges l.day.ticks l.day.words.now (members l.day.review) l.least l.stored-index l.walked.count l.walked.at.first l.walked.at.last l.rows l.initial.buffer l.buffer

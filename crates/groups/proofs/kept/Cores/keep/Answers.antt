@@ -6,4 +6,4 @@ use Rattle.groups.proofs.KeptCores.{keeps-one}
 use Rattle.groups.proofs.kept.Cores.keep.Goals as goal
 
 pub returns : goal.returns
-returns c = keeps-one c.args.core (search rules) refl (ap (◌+◌ c.args.self.now.records) c.from.ensures) refl
+returns c = keeps-one c.args.core _ c.of.ensures (search rules) refl (ap (◌+◌ c.args.self.now.records) c.from.ensures) refl
