@@ -9,4 +9,5 @@ mod refusal;
 
 pub use days::Size;
 pub use joining::join;
+pub use records::Reason;
 pub use refusal::Refusal;

@@ -6,5 +6,6 @@ mod refusal;
 mod sweeping;
 mod tracing;
 
+pub use logs::Reason;
 pub use refusal::Refusal;
 pub use tracing::trace;
