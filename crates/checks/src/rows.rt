@@ -7,8 +7,8 @@ ghost use Rattle.checks.specs.Changes.{UnionOver};
 
 use sets::{BadgeSet, CAPACITY, ROW_WORDS, SET_WORDS, WORD_BITS, set_at};
 
-// Copies the first words of a tick over those of rows. (By index: the library's copy would need `memmove` of whoever links the calls for C, who need only
-// `memcpy` and `memset` of him.)
+// Copies the first words of a tick over those of rows. (By index: the library's copy calls `memmove`, and whoever links the calls for C owes them only
+// `memcpy` and `memset`.)
 fn copy_words(rows: &mut [u64], tick: &[u64], count: usize)
     requires { (count ≤ length rows.old) × (count ≤ length tick.now) }
     ensures { rows.new ≡ take count tick.now ++ drop count rows.old }

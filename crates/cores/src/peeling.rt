@@ -53,7 +53,7 @@ fn look_at(rows: &[u64; ROW_WORDS], kept: Kept, order: usize, u: usize) -> Kept
 }
 
 // Looks at the members of a set that are in its word i, the smallest first: each that has too few neighbours in what is left then is dropped. (A walk over
-// the whole set takes a third more instructions, and twice the time, in core numbers: of a badge of one word it is known in which word it is dropped.)
+// the whole set takes 1.3 to 1.55 times the instructions in core numbers: of a badge of one word it is known in which word it is dropped.)
 fn look_at_word(rows: &[u64; ROW_WORDS], start: Kept, s: BadgeSet, i: usize, order: usize) -> Kept
     requires { i < set_words }
     ensures { WordSeen (graph rows.now) order (members s) i (members start.members) start.least (members result.members) result.least }

@@ -7,8 +7,8 @@ ghost use Rattle.logs.specs.Writing.{Appends};
 
 use records::{MAX_CONTACTS, MAX_LOG_BYTES, Record};
 
-// Lays bytes over a buffer from an offset on. Where the buffer does not hold them there, it stays as it is. (By index: the library's copy would need
-// `memmove` of whoever links the calls for C, who need only `memcpy` and `memset` of him.)
+// Lays bytes over a buffer from an offset on. Where the buffer does not hold them there, it stays as it is. (By index: the library's copy calls
+// `memmove`, and whoever links the calls for C owes them only `memcpy` and `memset`; of what is written through an adapter of `iter_mut` a proof knows nothing.)
 pub fn put(buffer: &mut [u8], at: usize, bytes: &[u8])
     ensures { buffer.new ≡ place at bytes.now buffer.old }
 {

@@ -1,5 +1,5 @@
 // A fixed sequence of random numbers: Marsaglia's xorshift of 64 bits, with the shifts 13, 7 and 17.
-ghost use Rattle.std.specs.Prelude.{◌≡◌, ◌-◌, ◌≤◌};
+ghost use Rattle.std.specs.Prelude.{◌≡◌, ◌+◌, ◌-◌, ◌≤◌};
 ghost use Rattle.reference.specs.Random.{xorshift, below};
 
 use crate::day::Span;
@@ -40,7 +40,10 @@ impl Random {
 
     // Draws a span of T ticks: the first, and then how many more.
     pub fn span(&mut self, ticks: usize) -> Span
-        ensures { result.first ≤ ticks - 1 }
+        ensures first { result.first ≡ below ticks (xorshift self.old.state) }
+        ensures within { result.first ≤ ticks - 1 }
+        ensures last { result.last ≡ result.first + below (ticks - result.first) (xorshift (xorshift self.old.state)) }
+        ensures leaves { self.new.state ≡ xorshift (xorshift self.old.state) }
     {
         let first = self.below(ticks);
         let last = first + self.below(ticks - first);
